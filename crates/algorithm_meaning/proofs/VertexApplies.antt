@@ -1,7 +1,7 @@
 -- Vertex applies leave other vertices alone.
 use Rattle.std.proofs.Common.{◌≡◌, ℕ, ◌==◌, ℤ, Bool, true, false, cond, ◌||◌, List, [], ◌∷◌, ap, sym, ◌∙◌, refl}
 use Rattle.std.proofs.lemmas.Bool.{false≢true}
-use Rattle.typed_tree.specs.FunctionStatementTree.{FunctionStatementTree, DeclareInteger, DeclareCondition, SetInteger, SetCondition, ReduceInteger, SetEntry, ReduceEntry, If, IfElse}
+use Rattle.typed_tree.specs.FunctionStatementTree.{FunctionStatementTree, DeclareInt, DeclareBool, SetInt, SetBool, ReduceInt, SetEntry, ReduceEntry, If, IfElse}
 use Rattle.typed_tree.specs.FunctionStatementTree.{FunctionStatementsTree, NoStep, StepThen}
 use Rattle.algorithm_meaning.specs.declared.contribution.Writing.TheVariants.{AtOnce}
 use Rattle.algorithm_meaning.specs.declared.state.SetBinding.{SetBinding}
@@ -20,11 +20,11 @@ either_source false x y u h k = k
 mutual
   -- the vertex stays
   source_after_step : (sets : List SetBinding) (step : FunctionStatementTree) (w : WorkValue) → (after_step AtOnce sets step w).scope.source ≡ w.scope.source
-  source_after_step sets (DeclareInteger name e) w = refl
-  source_after_step sets (DeclareCondition name c) w = refl
-  source_after_step sets (SetInteger slot e) w = refl
-  source_after_step sets (SetCondition slot c) w = refl
-  source_after_step sets (ReduceInteger slot reduction e) w = refl
+  source_after_step sets (DeclareInt name e) w = refl
+  source_after_step sets (DeclareBool name c) w = refl
+  source_after_step sets (SetInt slot e) w = refl
+  source_after_step sets (SetBool slot c) w = refl
+  source_after_step sets (ReduceInt slot reduction e) w = refl
   source_after_step sets (SetEntry vector e) w = refl
   source_after_step sets (ReduceEntry vector reduction e) w = refl
   source_after_step sets (If c body) w =
@@ -45,11 +45,11 @@ mutual
   -- the entries of other vertices stay
   entry_after_step : (sets : List SetBinding) (step : FunctionStatementTree) (w : WorkValue) (vector v : ℕ) → (w.scope.source == v) ≡ false
       → entry (after_step AtOnce sets step w).vectors vector v ≡ entry w.vectors vector v
-  entry_after_step sets (DeclareInteger name e) w vector v apart = refl
-  entry_after_step sets (DeclareCondition name c) w vector v apart = refl
-  entry_after_step sets (SetInteger slot e) w vector v apart = refl
-  entry_after_step sets (SetCondition slot c) w vector v apart = refl
-  entry_after_step sets (ReduceInteger slot reduction e) w vector v apart = refl
+  entry_after_step sets (DeclareInt name e) w vector v apart = refl
+  entry_after_step sets (DeclareBool name c) w vector v apart = refl
+  entry_after_step sets (SetInt slot e) w vector v apart = refl
+  entry_after_step sets (SetBool slot c) w vector v apart = refl
+  entry_after_step sets (ReduceInt slot reduction e) w vector v apart = refl
   entry_after_step sets (SetEntry written e) w vector v apart =
       entry_elsewhere w.vectors written w.scope.source (value w.vectors sets w.scope e) vector v apart
   entry_after_step sets (ReduceEntry written reduction e) w vector v apart =

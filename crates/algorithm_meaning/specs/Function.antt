@@ -3,14 +3,14 @@
 use Rattle.std.specs.Prelude.{ℕ, ℤ, List, [], ◌∷◌, ◌++◌, if◌then◌else◌, Option, Some, None, Bool, false, slice_index_or, slice_get}
 use Rattle.std.specs.List.{filter}
 use Rattle.apply_options.specs.declared.reduction.Reduction.{Reduction}
-use Rattle.typed_tree.specs.FunctionStatementTree.{FunctionStatementTree, DeclareInteger, DeclareCondition, SetInteger, SetCondition, ReduceInteger, SetEntry}
+use Rattle.typed_tree.specs.FunctionStatementTree.{FunctionStatementTree, DeclareInt, DeclareBool, SetInt, SetBool, ReduceInt, SetEntry}
 use Rattle.typed_tree.specs.FunctionStatementTree.{ReduceEntry, If, IfElse, FunctionStatementsTree, NoStep, StepThen, FunctionTree}
 use Rattle.algorithm_meaning.specs.declared.contribution.Contribution.{Contribution}
 use Rattle.algorithm_meaning.specs.declared.contribution.Writing.{Writing}
 use Rattle.algorithm_meaning.specs.declared.state.SetBinding.{SetBinding}
 use Rattle.algorithm_meaning.specs.State.{ScopeValue, filter_scope}
 use Rattle.algorithm_meaning.specs.Value.{value, truth, with_entry, reduce_at}
-use Rattle.algorithm_meaning.specs.Statements.{new_integer, new_condition, set_integer, set_condition, reduce_integer, forget_new}
+use Rattle.algorithm_meaning.specs.Statements.{new_integer, new_condition, set_int, set_bool, reduce_int, forget_new}
 use Rattle.algorithm_meaning.specs.declared.contribution.Writing.TheVariants.{Collected}
 use Rattle.algorithm_meaning.specs.declared.contribution.Writing.TheVariants as writing
 
@@ -42,12 +42,12 @@ after_block old w = record w { scope = forget_new old.scope w.scope }
 abbrev mutual
   -- after a statement; the sets are those of main
   pub after_step : Writing → List SetBinding → FunctionStatementTree → WorkValue → WorkValue
-  after_step writing sets (DeclareInteger name e) w = record w { scope = new_integer w.scope (value w.vectors sets w.scope e) }
-  after_step writing sets (DeclareCondition name c) w = record w { scope = new_condition w.scope (truth w.vectors sets w.scope c) }
-  after_step writing sets (SetInteger slot e) w = record w { scope = set_integer w.scope slot.index (value w.vectors sets w.scope e) }
-  after_step writing sets (SetCondition slot c) w = record w { scope = set_condition w.scope slot.index (truth w.vectors sets w.scope c) }
-  after_step writing sets (ReduceInteger slot reduction e) w =
-      record w { scope = reduce_integer w.scope slot.index reduction (value w.vectors sets w.scope e) }
+  after_step writing sets (DeclareInt name e) w = record w { scope = new_integer w.scope (value w.vectors sets w.scope e) }
+  after_step writing sets (DeclareBool name c) w = record w { scope = new_condition w.scope (truth w.vectors sets w.scope c) }
+  after_step writing sets (SetInt slot e) w = record w { scope = set_int w.scope slot.index (value w.vectors sets w.scope e) }
+  after_step writing sets (SetBool slot c) w = record w { scope = set_bool w.scope slot.index (truth w.vectors sets w.scope c) }
+  after_step writing sets (ReduceInt slot reduction e) w =
+      record w { scope = reduce_int w.scope slot.index reduction (value w.vectors sets w.scope e) }
   after_step writing sets (SetEntry vector e) w = after_set writing vector (value w.vectors sets w.scope e) w
   after_step writing sets (ReduceEntry vector reduction e) w = after_reduce writing vector reduction (value w.vectors sets w.scope e) w
   after_step writing sets (If c body) w =

@@ -2,8 +2,8 @@
 use Rattle.std.specs.Prelude.{ℕ, suc, ℤ, pos, if◌then◌else◌, ◌==◌, List, [], ◌∷◌, map, replicate, slice_index_or, ◌-◌}
 use Rattle.weighted_edges.specs.Edge.{Edge}
 use Rattle.typed_tree.specs.declared.program.InitialValue.{InitialValue}
-use Rattle.typed_tree.specs.BlockTree.{StatementKindTree, DeclareInteger, DeclareCondition, SetInteger, SetCondition, ReduceInteger, SetEntry, ReduceEntry}
-use Rattle.typed_tree.specs.BlockTree.{DeclareSet, AssignSet, AddVertex, PrintInteger, PrintCondition, ApplyVertex, ApplyEdges, If, IfElse, While, For}
+use Rattle.typed_tree.specs.BlockTree.{StatementKindTree, DeclareInt, DeclareBool, SetInt, SetBool, ReduceInt, SetEntry, ReduceEntry}
+use Rattle.typed_tree.specs.BlockTree.{DeclareSet, AssignSet, AddVertex, PrintInt, PrintBool, ApplyVertex, ApplyEdges, If, IfElse, While, For}
 use Rattle.typed_tree.specs.BlockTree.{BlockTree, Empty, Then}
 use Rattle.typed_tree.specs.ProgramTree.{ProgramTree}
 use Rattle.typed_tree.specs.declared.program.Vector.{Vector}
@@ -12,8 +12,8 @@ use Rattle.algorithm_meaning.specs.declared.state.SetBinding.{SetBinding}
 use Rattle.algorithm_meaning.specs.Arithmetic.{wrapped}
 use Rattle.algorithm_meaning.specs.State.{GraphValue, StateValue, main_scope}
 use Rattle.algorithm_meaning.specs.Stand.{Stand, Live, then_do, bool_value_in, with_value, choose, Over}
-use Rattle.algorithm_meaning.specs.Statements.{after_declare_integer, after_declare_condition, after_set_integer, after_set_condition, after_reduce_integer}
-use Rattle.algorithm_meaning.specs.Statements.{with_vectors, after_set_entry, after_reduce_entry, after_print_integer, after_print_condition}
+use Rattle.algorithm_meaning.specs.Statements.{after_declare_int, after_declare_bool, after_set_int, after_set_bool, after_reduce_int}
+use Rattle.algorithm_meaning.specs.Statements.{with_vectors, after_set_entry, after_reduce_entry, after_print_int, after_print_bool}
 use Rattle.algorithm_meaning.specs.VertexSets.{all_below, after_declare_set, after_assign_set, after_add_vertex, after_apply_vertex}
 use Rattle.algorithm_meaning.specs.EdgeApply.{after_edge_apply}
 use Rattle.algorithm_meaning.specs.Loop.{inside, after_while, after_for, bounds_in}
@@ -24,20 +24,20 @@ use Rattle.algorithm_meaning.specs.declared.outcome.Outcome.{Outcome}
 use Rattle.algorithm_meaning.specs.declared.outcome.End.TheVariants.{Finished}
 
 abbrev mutual
-  -- what the statement of this number does
+  -- the state after the statement of this number
   pub after : ProgramTree → GraphValue → ℕ → StatementKindTree → StateValue → Stand
-  after p g number (DeclareInteger name e) s = after_declare_integer g.vertices number e s
-  after p g number (DeclareCondition name c) s = after_declare_condition g.vertices number c s
-  after p g number (SetInteger slot e) s = after_set_integer g.vertices number slot.index e s
-  after p g number (SetCondition slot c) s = after_set_condition g.vertices number slot.index c s
-  after p g number (ReduceInteger slot reduction e) s = after_reduce_integer g.vertices number slot.index reduction e s
+  after p g number (DeclareInt name e) s = after_declare_int g.vertices number e s
+  after p g number (DeclareBool name c) s = after_declare_bool g.vertices number c s
+  after p g number (SetInt slot e) s = after_set_int g.vertices number slot.index e s
+  after p g number (SetBool slot c) s = after_set_bool g.vertices number slot.index c s
+  after p g number (ReduceInt slot reduction e) s = after_reduce_int g.vertices number slot.index reduction e s
   after p g number (SetEntry vector subscript e) s = after_set_entry g.vertices number vector subscript e s
   after p g number (ReduceEntry vector subscript reduction e) s = after_reduce_entry g.vertices number vector subscript reduction e s
   after p g number (DeclareSet name set) s = Live (after_declare_set p g name set s)
   after p g number (AssignSet slot set) s = Live (after_assign_set p g slot.index set s)
   after p g number (AddVertex slot e) s = after_add_vertex g.vertices number slot.index e s
-  after p g number (PrintInteger e) s = after_print_integer g.vertices number e s
-  after p g number (PrintCondition c) s = after_print_condition g.vertices number c s
+  after p g number (PrintInt e) s = after_print_int g.vertices number e s
+  after p g number (PrintBool c) s = after_print_bool g.vertices number c s
   after p g number (ApplyVertex set function) s = Live (after_apply_vertex p.vertex_functions set.index function s)
   after p g number (ApplyEdges ends function) s =
       Live (with_vectors s (after_edge_apply p.filters p.edge_functions g ends (function ∷ []) s))
@@ -49,29 +49,29 @@ abbrev mutual
   after p g number (For name first end body) s =
       with_value (bounds_in g.vertices first end s) number s (λ r. after_for number (after_all p g body) r s)
 
-  -- what statements do, in order
+  -- the state after all statements of a block, in order
   pub after_all : ProgramTree → GraphValue → BlockTree → StateValue → Stand
   after_all p g Empty s = Live s
   after_all p g (Then number label action rest) s = then_do (after p g number action s) (after_all p g rest)
 
--- how many of these edges leave a vertex
+-- the number of these edges that leave a vertex
 abbrev pub out_degree : ℕ → List Edge → ℕ
 out_degree v [] = 0
 out_degree v (edge ∷ edges) = if edge.0 == v then suc (out_degree v edges) else out_degree v edges
 
--- what a vector begins with; a degree is an int
-abbrev pub opening_entries : GraphValue → InitialValue → List ℤ
-opening_entries g (beginning.Number n) = replicate g.vertices n
-opening_entries g beginning.OutDegrees = map (λ v. wrapped (pos (out_degree v g.edges))) (all_below g.vertices)
+-- the entries of a vector before the first statement; a degree is wrapped to 64 bits
+abbrev pub initial_entries : GraphValue → InitialValue → List ℤ
+initial_entries g (beginning.Number n) = replicate g.vertices n
+initial_entries g beginning.OutDegrees = map (λ v. wrapped (pos (out_degree v g.edges))) (all_below g.vertices)
 
 -- a constant set has all vertices
 abbrev pub full_set : GraphValue → ℕ → SetBinding
 full_set g name = record { name = name; members = all_below g.vertices }
 
--- before the first statement
-abbrev pub opening : ProgramTree → GraphValue → ℕ → StateValue
-opening p g turns = record {
-  vectors = map (λ v. opening_entries g v.beginning) p.vectors;
+-- the state before the first statement
+abbrev pub initial_state : ProgramTree → GraphValue → ℕ → StateValue
+initial_state p g turns = record {
+  vectors = map (λ v. initial_entries g v.beginning) p.vectors;
   sets = map (full_set g) p.sets;
   scope = main_scope;
   text = [];
@@ -93,7 +93,7 @@ named_vectors names (v ∷ vs) (entries ∷ more) =
 abbrev pub named_set : List (List ℕ) → SetBinding → NamedSet
 named_set names set = record { name = shown_name_at names set.name; members = set.members }
 
--- what is shown of a state, when the bound of turns was this and the run ended so
+-- the outcome of a run that ended so in this state, if it had so many turns at first
 abbrev pub shown : ProgramTree → ℕ → StateValue → End → Outcome
 shown p turns s end = record {
   end = end;
@@ -103,11 +103,11 @@ shown p turns s end = record {
   text = s.text;
 }
 
--- a run that has not ended has come to the end of main
+-- after the last statement of main: a run that is live there has finished
 abbrev pub outcome_of : ProgramTree → ℕ → Stand → Outcome
 outcome_of p turns (Live s) = shown p turns s Finished
 outcome_of p turns (Over s end) = shown p turns s end
 
--- what a program means on a graph, within a bound of turns
+-- the meaning of a program on a graph: its outcome within so many turns
 abbrev pub meaning : ProgramTree → GraphValue → ℕ → Outcome
-meaning p g turns = outcome_of p turns (after_all p g p.main (opening p g turns))
+meaning p g turns = outcome_of p turns (after_all p g p.main (initial_state p g turns))

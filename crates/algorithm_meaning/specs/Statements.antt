@@ -17,15 +17,15 @@ abbrev pub new_condition : ScopeValue → Bool → ScopeValue
 new_condition scope b = record scope { conditions = scope.conditions ++ b ∷ [] }
 
 -- the visible variables with another value of one
-abbrev pub set_integer : ScopeValue → ℕ → ℤ → ScopeValue
-set_integer scope index n = record scope { integers = slice_set scope.integers index n }
+abbrev pub set_int : ScopeValue → ℕ → ℤ → ScopeValue
+set_int scope index n = record scope { integers = slice_set scope.integers index n }
 
-abbrev pub set_condition : ScopeValue → ℕ → Bool → ScopeValue
-set_condition scope index b = record scope { conditions = slice_set scope.conditions index b }
+abbrev pub set_bool : ScopeValue → ℕ → Bool → ScopeValue
+set_bool scope index b = record scope { conditions = slice_set scope.conditions index b }
 
 -- the variable at an index reduced with a number
-abbrev pub reduce_integer : ScopeValue → ℕ → Reduction → ℤ → ScopeValue
-reduce_integer scope index reduction n = set_integer scope index (reduced reduction (slice_index_or scope.integers index (pos 0)) n)
+abbrev pub reduce_int : ScopeValue → ℕ → Reduction → ℤ → ScopeValue
+reduce_int scope index reduction n = set_int scope index (reduced reduction (slice_index_or scope.integers index (pos 0)) n)
 
 -- the variables of the second that were visible in the first already
 abbrev pub forget_new : ScopeValue → ScopeValue → ScopeValue
@@ -40,24 +40,24 @@ with_scope s scope = record s { scope = scope }
 abbrev pub with_new_integer : StateValue → ℤ → StateValue
 with_new_integer s n = with_scope s (new_integer s.scope n)
 
-abbrev pub after_declare_integer : (vertices number : ℕ) → IntExpressionTree → StateValue → Stand
-after_declare_integer vertices number e s = with_value (int_value_in vertices e s) number s (λ n. Live (with_new_integer s n))
+abbrev pub after_declare_int : (vertices number : ℕ) → IntExpressionTree → StateValue → Stand
+after_declare_int vertices number e s = with_value (int_value_in vertices e s) number s (λ n. Live (with_new_integer s n))
 
-abbrev pub after_declare_condition : (vertices number : ℕ) → BoolExpressionTree → StateValue → Stand
-after_declare_condition vertices number c s =
+abbrev pub after_declare_bool : (vertices number : ℕ) → BoolExpressionTree → StateValue → Stand
+after_declare_bool vertices number c s =
     with_value (bool_value_in vertices c s) number s (λ b. Live (with_scope s (new_condition s.scope b)))
 
-abbrev pub after_set_integer : (vertices number index : ℕ) → IntExpressionTree → StateValue → Stand
-after_set_integer vertices number index e s =
-    with_value (int_value_in vertices e s) number s (λ n. Live (with_scope s (set_integer s.scope index n)))
+abbrev pub after_set_int : (vertices number index : ℕ) → IntExpressionTree → StateValue → Stand
+after_set_int vertices number index e s =
+    with_value (int_value_in vertices e s) number s (λ n. Live (with_scope s (set_int s.scope index n)))
 
-abbrev pub after_set_condition : (vertices number index : ℕ) → BoolExpressionTree → StateValue → Stand
-after_set_condition vertices number index c s =
-    with_value (bool_value_in vertices c s) number s (λ b. Live (with_scope s (set_condition s.scope index b)))
+abbrev pub after_set_bool : (vertices number index : ℕ) → BoolExpressionTree → StateValue → Stand
+after_set_bool vertices number index c s =
+    with_value (bool_value_in vertices c s) number s (λ b. Live (with_scope s (set_bool s.scope index b)))
 
-abbrev pub after_reduce_integer : (vertices number index : ℕ) → Reduction → IntExpressionTree → StateValue → Stand
-after_reduce_integer vertices number index reduction e s =
-    with_value (int_value_in vertices e s) number s (λ n. Live (with_scope s (reduce_integer s.scope index reduction n)))
+abbrev pub after_reduce_int : (vertices number index : ℕ) → Reduction → IntExpressionTree → StateValue → Stand
+after_reduce_int vertices number index reduction e s =
+    with_value (int_value_in vertices e s) number s (λ n. Live (with_scope s (reduce_int s.scope index reduction n)))
 
 abbrev pub with_vectors : StateValue → List (List ℤ) → StateValue
 with_vectors s vectors = record s { vectors = vectors }
@@ -88,8 +88,8 @@ condition_line true = 116 ∷ 114 ∷ 117 ∷ 101 ∷ 10 ∷ []
 condition_line false = 102 ∷ 97 ∷ 108 ∷ 115 ∷ 101 ∷ 10 ∷ []
 
 -- `print` of a number, and of a truth value
-abbrev pub after_print_integer : (vertices number : ℕ) → IntExpressionTree → StateValue → Stand
-after_print_integer vertices number e s = with_value (int_value_in vertices e s) number s (λ n. Live (with_text s (integer_line n)))
+abbrev pub after_print_int : (vertices number : ℕ) → IntExpressionTree → StateValue → Stand
+after_print_int vertices number e s = with_value (int_value_in vertices e s) number s (λ n. Live (with_text s (integer_line n)))
 
-abbrev pub after_print_condition : (vertices number : ℕ) → BoolExpressionTree → StateValue → Stand
-after_print_condition vertices number c s = with_value (bool_value_in vertices c s) number s (λ b. Live (with_text s (condition_line b)))
+abbrev pub after_print_bool : (vertices number : ℕ) → BoolExpressionTree → StateValue → Stand
+after_print_bool vertices number c s = with_value (bool_value_in vertices c s) number s (λ b. Live (with_text s (condition_line b)))

@@ -1,6 +1,6 @@
 //! What programs mean.
 //!
-//! The definitions stand in `specs/`, over the pure trees of `typed_tree`: what operators give
+//! The definitions are in `specs/`, over the pure trees of `typed_tree`: what operators give
 //! (`Arithmetic`), the state that a run works on (`State`), the values of expressions (`Value`) and where
 //! `main` has one (`Stand`), variables (`Variables`), entries of vectors (`Entries`), statements of
 //! functions (`Function`), applies (`VertexApply`, `EdgeApply`), filters (`Filter`), vertex sets

@@ -4,7 +4,7 @@ use typed_tree::{Name, Sequence};
 /// How a run ended.
 #[derive(Clone, Copy, Debug, PartialEq, Eq)]
 pub enum End {
-    /// It came to the end of `main`.
+    /// It reached the end of `main`.
     Finished,
     /// A loop would have entered its body when all turns were used.
     TurnsOver,

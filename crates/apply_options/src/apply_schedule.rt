@@ -38,7 +38,7 @@ pub enum DenseVertexSet {
     Bitvector,
 }
 
-/// Where an apply stands in a fusing of two.
+/// Where an apply is in a fusing of two.
 #[derive(Clone, Copy, Debug, PartialEq, Eq)]
 pub enum Fused {
     /// It is the first, and the apply with this label is done with it.

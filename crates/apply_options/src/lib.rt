@@ -6,7 +6,7 @@
 //! and the groups of vectors that are kept together. That an algorithm stands apart from its schedule is GraphIt's idea (Zhang, Yang,
 //! Baghdadi, Kamil, Shun, Amarasinghe, OOPSLA 2018).
 //!
-//! The crates of the language, of plans and of the engines stand on this one, so that an engine knows no syntax.
+//! The crates of the language, of plans and of the engines depend on this one, so that an engine knows no syntax.
 #![tactic(auto)]
 
 mod apply_schedule;

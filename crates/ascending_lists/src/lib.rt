@@ -13,7 +13,7 @@
 //! `differences_lack_the_keys` and `cuts_keep_values` say each by its keys, as on lists of numbers, and
 //! by what it gives at a key. A law does nothing when called.
 //!
-//! Lists in bytes, trees, sets in chunks and graphs stand on this crate.
+//! Lists in bytes, trees, sets in chunks and graphs depend on this crate.
 #![tactic(auto)]
 
 mod ascending_list;

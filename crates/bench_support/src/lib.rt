@@ -1,7 +1,7 @@
 //! What the benchmark programs share: random numbers and graphs, the same on every machine, times of work that is done
 //! again and again, tables, sums over tails, and the words of a command line.
 //!
-//! It promises to be safe and to end, and no more; only programs that measure stand on it.
+//! It promises to be safe and to end, and no more; only programs that measure depend on it.
 #![tactic(auto)]
 
 mod arguments;
@@ -18,4 +18,4 @@ pub use graphs::{
 pub use random::Random;
 pub use table::{print_head, print_row, print_rows, print_times};
 pub use tails::{sum_by_blocks, sum_of, sum_of_tails, tail_error};
-pub use timing::{Benchmark, Taken, Times, Turns, nanos_since, times_of};
+pub use timing::{Benchmark, Samples, Taken, Times, nanos_since, times_of};

@@ -1,6 +1,6 @@
 //! Tables of times.
 
-use crate::timing::{Benchmark, Times, Turns, times_of};
+use crate::timing::{Benchmark, Samples, Times, times_of};
 use std::io;
 
 /// Prints the head of a table: what its rows are, and what `print_times` prints of each.
@@ -21,11 +21,11 @@ pub fn print_times(rt: &HostRuntime, name: &str, items: u64, times: Times) -> io
 pub fn print_rows<B: Benchmark>(
     rt: &HostRuntime,
     rows: &[(&str, B::Row)],
-    turns: Turns,
+    samples: Samples,
     benchmark: &mut B,
 ) -> io::Result<()> {
     for (name, row) in rows {
-        print_row(rt, name, turns, benchmark, *row)?;
+        print_row(rt, name, samples, benchmark, *row)?;
     }
     Ok(())
 }
@@ -34,11 +34,11 @@ pub fn print_rows<B: Benchmark>(
 pub fn print_row<B: Benchmark>(
     rt: &HostRuntime,
     name: &str,
-    turns: Turns,
+    samples: Samples,
     benchmark: &mut B,
     row: B::Row,
 ) -> io::Result<u64> {
-    let times = times_of(rt, turns, benchmark, row)?;
+    let times = times_of(rt, samples, benchmark, row)?;
     print_times(rt, name, benchmark.items(row), times)?;
     Ok(times.found)
 }

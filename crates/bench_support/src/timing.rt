@@ -24,12 +24,12 @@ pub trait Benchmark {
 
 /// How often work is timed, and how often it is done each time.
 #[derive(Clone, Copy)]
-pub struct Turns {
+pub struct Samples {
     pub count: u64,
     pub rounds: u64,
 }
 
-/// How long the work took in the shortest and in the middle one of some turns, in nanoseconds, and what it came to last.
+/// How long the work took in the shortest and in the middle one of some samples, in nanoseconds, and what it came to last.
 #[derive(Clone, Copy)]
 pub struct Times {
     pub best: u64,
@@ -37,7 +37,7 @@ pub struct Times {
     pub found: u64,
 }
 
-/// The nanoseconds of turns, and what the last one came to.
+/// The nanoseconds of samples, and what the last one came to.
 pub struct Taken {
     nanos: Vec<u64>,
     found: u64,
@@ -50,7 +50,7 @@ impl Drop for Taken {
 }
 
 impl Taken {
-    /// No turn so far.
+    /// No sample so far.
     pub fn new(alloc: Global) -> Taken {
         Taken {
             nanos: Vec::new(alloc),
@@ -58,7 +58,7 @@ impl Taken {
         }
     }
 
-    /// Adds a turn that began at this time, did its work so often and came to this.
+    /// Adds a sample that began at this time, did its work so often and came to this.
     pub fn add(
         &mut self,
         rt: &HostRuntime,
@@ -70,13 +70,13 @@ impl Taken {
         self.push(nanos, rounds, found)
     }
 
-    /// Adds a turn that took so many nanoseconds, did its work so often and came to this.
+    /// Adds a sample that took so many nanoseconds, did its work so often and came to this.
     pub fn push(&mut self, nanos: u64, rounds: u64, found: u64) -> io::Result<()> {
         self.found = found;
         Ok(self.nanos.push(nanos / rounds.max(1))?)
     }
 
-    /// The times of the turns.
+    /// The times of the samples.
     pub fn times(&mut self) -> io::Result<Times> {
         self.nanos.sort()?;
         Ok(Times {
@@ -101,18 +101,18 @@ pub fn nanos_since<C: Clock>(clock: &C, start: Instant) -> io::Result<u64> {
 /// Does a row of a benchmark so often.
 pub fn times_of<B: Benchmark>(
     rt: &HostRuntime,
-    turns: Turns,
+    samples: Samples,
     benchmark: &mut B,
     row: B::Row,
 ) -> io::Result<Times> {
     let mut taken = Taken::new(rt.alloc());
-    for _ in 0..turns.count {
-        add_turn(rt, turns.rounds, benchmark, row, &mut taken)?;
+    for _ in 0..samples.count {
+        add_sample(rt, samples.rounds, benchmark, row, &mut taken)?;
     }
     taken.times()
 }
 
-fn add_turn<B: Benchmark>(
+fn add_sample<B: Benchmark>(
     rt: &HostRuntime,
     rounds: u64,
     benchmark: &mut B,

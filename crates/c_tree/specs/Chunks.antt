@@ -6,12 +6,12 @@ use Rattle.ascending_lists.specs.Ascending.{Ascends}
 use Rattle.tail_codec.specs.Spelling.{BasedList, based_list}
 use Rattle.c_tree.specs.Heads.{IsChunkSize, is_head}
 
--- what stands before the first head
+-- what is before the first head
 abbrev pub before_head : ℕ → List (ℕ × ℤ) → List (ℕ × ℤ)
 before_head b [] = []
 before_head b (e ∷ es) = if is_head b e.0 then [] else e ∷ before_head b es
 
--- the prefix: what stands before the first head, over no base
+-- the prefix: what is before the first head, over no base
 abbrev pub prefix_of : ℕ → List (ℕ × ℤ) → BasedList
 prefix_of b es = based_list None (before_head b es)
 
@@ -23,7 +23,7 @@ pub record HeadValue : Type 0 where
 abbrev pub head_value : ℤ → BasedList → HeadValue
 head_value w t = record { weight = w; tail = t }
 
--- the chunks: each head with its weight and its tail, which is what stands after the head up to the
+-- the chunks: each head with its weight and its tail, which is what is after the head up to the
 -- next one, over the head
 abbrev pub chunks_of : ℕ → List (ℕ × ℤ) → List (ℕ × HeadValue)
 chunks_of b [] = []

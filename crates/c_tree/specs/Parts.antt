@@ -1,4 +1,4 @@
--- What stands in a set before a head, after it, below a key and above it.
+-- What is in a set before a head, after it, below a key and above it.
 use Rattle.std.specs.Prelude.{◌≡◌, ℕ, ℤ, ◌+◌, max, true, Option, None, ◌∷◌, ◌++◌}
 use Rattle.std.specs.Map.{keys_of}
 use Rattle.ascending_lists.specs.Ascending.{Ascends}

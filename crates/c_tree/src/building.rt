@@ -57,7 +57,7 @@ fn keys_ascend(pairs: &[(u32, i64)]) -> bool
 
 impl Part {
     /// Entries whose keys ascend strictly from a base, each chunk made anew. It takes time in
-    /// proportion to them. What stands before the first head is written over the base.
+    /// proportion to them. What is before the first head is written over the base.
     ///
     /// The only error is out of memory.
     pub fn from_ascending(
@@ -78,7 +78,7 @@ impl Part {
     }
 }
 
-/// What stands before the first head, and what stands from it on.
+/// What is before the first head, and the rest.
 fn split_at_head<'a>(chunk_size: ChunkSize, entries: &Entries<'a>) -> (Entries<'a>, Entries<'a>)
     ensures front { result.0 ≡ before_head chunk_size entries.now }
     ensures rest { result.1 ≡ from_head chunk_size entries.now }
@@ -87,7 +87,7 @@ fn split_at_head<'a>(chunk_size: ChunkSize, entries: &Entries<'a>) -> (Entries<'
     (entries.up_to(index), entries.from(index))
 }
 
-/// How many entries stand before the first head.
+/// How many entries are before the first head.
 fn head_index(chunk_size: ChunkSize, entries: &Entries<'_>) -> usize
     ensures { result ≡ length (before_head chunk_size entries.now) }
 {

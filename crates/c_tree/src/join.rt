@@ -33,8 +33,8 @@ impl Part {
         Ok(Part::new(prefix, chunks, chunk_size))
     }
 
-    /// The entries of this part and then those of another part. What stands before the heads of the
-    /// other part goes to the tail of the last head, or to what stands before all heads.
+    /// The entries of this part and then those of another part. What is before the heads of the
+    /// other part goes to the tail of the last head, or to what is before all heads.
     ///
     /// The only error is out of memory.
     pub fn join2(self, alloc: Global, other: Part) -> Result<Part, AllocError>

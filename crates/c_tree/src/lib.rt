@@ -11,10 +11,10 @@
 //! one by one, their keys by blocks, or keys and weights by two blocks. `append_spelling` writes the
 //! whole list as one, in the bytes of one tail, after other bytes.
 //!
-//! A [`View`] is a set that is lent, or what stands in it before a head or after one: the tail of a
+//! A [`View`] is a set that is lent, or what is in it before a head or after one: the tail of a
 //! head and the chunks to the right of it are in chunks as a set is, so `root` takes a view apart into
 //! two views and a head with its weight, and takes no memory. A [`Part`] has owners of its own and is
-//! made of views: `share` and `cut` give parts, `join` and `join2` put them together. What stands before
+//! made of views: `share` and `cut` give parts, `join` and `join2` put them together. What is before
 //! the heads of the second then becomes a tail of the first. So an entry that a head of another set
 //! takes over, or that loses its head, goes to the right chunk by these four calls alone. The number of
 //! a part's entries is not kept; with it a part becomes a set, by `into_set`.
@@ -24,7 +24,7 @@
 //! set is 64 bytes beside its tails and its tree, which has 8 bytes for the weight of each head. One with
 //! no entry takes no memory, and one that is all prefix takes that of its prefix.
 //!
-//! Operations on sets stand on this crate, and graphs, which keep the neighbours of a vertex that has
+//! Operations on sets depend on this crate, and graphs, which keep the neighbours of a vertex that has
 //! many in such a set, each with the weight of its edge. C-trees are those of
 //! Aspen (Dhulipala, Blelloch, Shun, PLDI 2019), with a balanced tree of chunks and a hash of our own.
 #![tactic(auto)]

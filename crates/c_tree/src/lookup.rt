@@ -28,7 +28,7 @@ impl CTree {
 }
 
 impl<'a> View<'a> {
-    /// Whether a key stands in the view. It takes time in proportion to the depth and to the length of
+    /// Whether a key is in the view. It takes time in proportion to the depth and to the length of
     /// one tail, and no memory.
     pub fn contains(&self, key: u32) -> bool
         ensures { IsTrue result ↔ Contains (keys_of self.now.entries) key }
@@ -36,7 +36,7 @@ impl<'a> View<'a> {
         self.get(key).is_some()
     }
 
-    /// The weight of a key, if it stands in the view. It takes time in proportion to the depth and to
+    /// The weight of a key, if it is in the view. It takes time in proportion to the depth and to
     /// the length of one tail, and no memory.
     pub fn get(&self, key: u32) -> Option<i64>
         ensures { result ≡ lookup key self.now.entries }

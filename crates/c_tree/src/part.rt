@@ -46,7 +46,7 @@ impl Model for Part {
 }
 
 impl Part {
-    /// What stands before all heads, and chunks.
+    /// What is before all heads, and chunks.
     pub(crate) fn new(prefix: Tail, chunks: Tree<ChunkTail>, chunk_size: ChunkSize) -> Part
         requires { IsPart chunk_size prefix chunks.entries }
         ensures { result ≡ in_chunks chunk_size prefix chunks }
@@ -67,7 +67,7 @@ impl Part {
         Part::new(prefix, Tree::new(), chunk_size)
     }
 
-    /// What stands before all heads, the chunks, and the chunk size.
+    /// What is before all heads, the chunks, and the chunk size.
     pub(crate) fn into_parts(self) -> (Tail, Tree<ChunkTail>, ChunkSize)
         ensures part { IsPart result.2 result.0 result.1.entries }
         ensures whole { in_chunks result.2 result.0 result.1 ≡ self }

@@ -19,7 +19,7 @@ impl CTree {
     /// Writes the bytes that spell all entries as one list, over no base, after other bytes. It
     /// takes time in proportion to the bytes.
     ///
-    /// The only error is out of memory, and then a part of these bytes may stand after the others.
+    /// The only error is out of memory, and then a part of these bytes may be after the others.
     #[inline]
     pub fn append_spelling(&self, bytes: &mut Vec<u8>) -> Result<(), AllocError>
         ensures { IsAppended bytes.old.items result (λ _. Spells None self.now.entries)

@@ -1,4 +1,4 @@
-//! Sets that are lent, and what stands in them before a head or after one.
+//! Sets that are lent, and what is in them before a head or after one.
 
 ghost use Rattle.std.specs.Prelude.{◌≡◌, ◌↔◌, ◌^◌, ◌≤◌, None, [], length, IsTrue, IfOk, MatchOption};
 ghost use Rattle.std.specs.Map.{keys_of};
@@ -18,7 +18,7 @@ use std::alloc::{AllocError, Global};
 use std::marker::Model;
 use tail_codec::{EntryList, Tail};
 
-/// A set that is lent, or what stands in it before a head, or after one. A contract sees the entries
+/// A set that is lent, or what is in it before a head, or after one. A contract sees the entries
 /// in ascending order of keys, the chunk size, and the depth of the tree of chunks.
 #[derive(Drop)]
 pub struct View<'a> {
@@ -39,7 +39,7 @@ impl<'a> Model for View<'a> {
 }
 
 impl<'a> View<'a> {
-    /// What stands before all heads, and chunks.
+    /// What is before all heads, and chunks.
     pub(crate) fn new(
         prefix: &'a Tail,
         chunks: &'a Tree<ChunkTail>,
@@ -114,8 +114,8 @@ impl<'a> View<'a> {
         Ok(EntryList::new(keys, weights))
     }
 
-    /// What stands before the head at the root of the tree of chunks, the head, its weight, and what
-    /// stands after it, or `None` where there is no head. It takes no memory.
+    /// What is before the head at the root of the tree of chunks, the head, its weight, and what
+    /// is after it, or `None` where there is no head. It takes no memory.
     pub fn root(&self) -> Option<(View<'a>, u32, i64, View<'a>)>
         ensures { MatchOption result (HasNoHead self.now.chunk_size self.now.entries)
             (λ p. IsRoot self.now p.0 p.1 p.2 p.3) }

@@ -4,7 +4,7 @@
 //! means, within the turns, on the fold of the commits of the history that the reader then shows (`specs/Outcome.antt`). The laws
 //! lead from a plan to its text: who compiles once and runs often has the same of each run.
 //!
-//! It stands on `compiler` and `snapshot_runs`.
+//! It depends on `compiler` and `snapshot_runs`.
 #![tactic(auto)]
 
 mod error;

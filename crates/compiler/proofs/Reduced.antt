@@ -6,7 +6,7 @@ use Rattle.std.proofs.lemmas.List.Elements.{All-nil, All-cons}
 use Rattle.std.specs.List.{All, AllByRecursion, list_all}
 use Rattle.schedule.specs.Reduction.{Reduction}
 use Rattle.schedule.specs.Reduction.TheVariants.{Min}
-use Rattle.schedule.specs.FunctionStatementTree.{FunctionTree, FunctionStatementTree, DeclareInteger, DeclareCondition, SetInteger, SetCondition, ReduceInteger, SetEntry, ReduceEntry, If, IfElse}
+use Rattle.schedule.specs.FunctionStatementTree.{FunctionTree, FunctionStatementTree, DeclareInt, DeclareBool, SetInt, SetBool, ReduceInt, SetEntry, ReduceEntry, If, IfElse}
 use Rattle.schedule.specs.FunctionStatementTree.{FunctionStatementsTree, NoStep, StepThen}
 use Rattle.schedule.specs.ProgramTree.{ProgramTree}
 use Rattle.types.specs.EdgeWrites.{StepReduces, StepsReduce, ReducesInOneWay, SetsNoEntry}
@@ -57,11 +57,11 @@ module _ (P : ℕ → Reduction → Type 0) (sets : List SetBinding) (writing : 
   mutual
     step_gives : (step : FunctionStatementTree) (w : WorkValue) → ((vector : ℕ) (by : Reduction) → StepReduces vector by step → P vector by) → AreGiven P w.given
         → AreGiven P (after_step writing sets step w).given
-    step_gives (DeclareInteger name e) w such h = h
-    step_gives (DeclareCondition name c) w such h = h
-    step_gives (SetInteger slot e) w such h = h
-    step_gives (SetCondition slot c) w such h = h
-    step_gives (ReduceInteger slot reduction e) w such h = h
+    step_gives (DeclareInt name e) w such h = h
+    step_gives (DeclareBool name c) w such h = h
+    step_gives (SetInt slot e) w such h = h
+    step_gives (SetBool slot c) w such h = h
+    step_gives (ReduceInt slot reduction e) w such h = h
     step_gives (SetEntry vector e) w such h = subst (λ (z : WorkValue). AreGiven P z.given) (sym (sets_nothing vector (value w.vectors sets w.scope e) w)) h
     step_gives (ReduceEntry vector reduction e) w such h =
         let n = value w.vectors sets w.scope e in
@@ -115,11 +115,11 @@ entry_decided index vector other false e = inr (λ by h. false≢true (sym e ∙
 mutual
   -- a vector is reduced in some way, or in none
   step_decided : (vector : ℕ) (step : FunctionStatementTree) → IsDecided (λ by. StepReduces vector by step)
-  step_decided vector (DeclareInteger name e) = inr (λ by h. h)
-  step_decided vector (DeclareCondition name c) = inr (λ by h. h)
-  step_decided vector (SetInteger slot e) = inr (λ by h. h)
-  step_decided vector (SetCondition slot c) = inr (λ by h. h)
-  step_decided vector (ReduceInteger slot other e) = inr (λ by h. h)
+  step_decided vector (DeclareInt name e) = inr (λ by h. h)
+  step_decided vector (DeclareBool name c) = inr (λ by h. h)
+  step_decided vector (SetInt slot e) = inr (λ by h. h)
+  step_decided vector (SetBool slot c) = inr (λ by h. h)
+  step_decided vector (ReduceInt slot other e) = inr (λ by h. h)
   step_decided vector (SetEntry index e) = inr (λ by h. h)
   step_decided vector (ReduceEntry index other e) = entry_decided index vector other (index == vector) refl
   step_decided vector (If c body) = steps_decided vector body
@@ -132,11 +132,11 @@ mutual
 mutual
   -- a vector that is reduced is written
   step_writes_it : (P : ℕ → Bool) (vector : ℕ) (by : Reduction) (step : FunctionStatementTree) → StepReduces vector by step → list_all P (step_writes step) ≡ true → P vector ≡ true
-  step_writes_it P vector by (DeclareInteger name e) is all = absurd is
-  step_writes_it P vector by (DeclareCondition name c) is all = absurd is
-  step_writes_it P vector by (SetInteger slot e) is all = absurd is
-  step_writes_it P vector by (SetCondition slot c) is all = absurd is
-  step_writes_it P vector by (ReduceInteger slot other e) is all = absurd is
+  step_writes_it P vector by (DeclareInt name e) is all = absurd is
+  step_writes_it P vector by (DeclareBool name c) is all = absurd is
+  step_writes_it P vector by (SetInt slot e) is all = absurd is
+  step_writes_it P vector by (SetBool slot c) is all = absurd is
+  step_writes_it P vector by (ReduceInt slot other e) is all = absurd is
   step_writes_it P vector by (SetEntry index e) is all = absurd is
   step_writes_it P vector by (ReduceEntry index other e) is all = subst (λ (n : ℕ). P n ≡ true) is.0 (and_parts (P index) true all).0
   step_writes_it P vector by (If c body) is all = steps_write_it P vector by body is all

@@ -40,7 +40,7 @@ pub record IsProgram (text : List ℕ) (program : ProgramTree) : Type 0 where
   pub schedule : ScheduleTree
   pub accepted : schedule_of program ≡ Ok schedule
 
--- the text is a source, of whose faults this one is told
+-- the text is a source, of whose faults this one is reported
 pub record HasFault (text : List ℕ) (fault : Fault) : Type 0 where
   pub source : SourceTree
   pub parsed : IsSource text source
@@ -52,7 +52,7 @@ pub record HasFaultyCall (text : List ℕ) (rule : ScheduleRule) (at : ℕ) : Ty
   pub typed : IsTyped text program
   pub told : schedule_of program ≡ Err (rule, at)
 
--- The answer is right for the text. Nothing is said where memory runs out.
+-- The answer is right for the text. Nothing is said if memory runs out.
 abbrev pub Compiles : List ℕ → Result Plan CompileError → Type 0
 Compiles text (Ok plan) = IsPlanOfText text plan
 Compiles text (Err (NotParsed parser.NoMemory)) = ⊥

@@ -41,7 +41,7 @@ pub fn compile(alloc: Global, text: &[u8]) -> Result<Plan, CompileError>
     Ok(plan)
 }
 
-/// The law that a refusal stands in the text, or at its end: its offset is at most the text's length. The call does nothing.
+/// The law that a refusal is in the text, or at its end: its offset is at most the text's length. The call does nothing.
 pub fn refusals_stand_in_the_text()
     ensures { (text : List ℕ) (refusal : error.CompileError) → Compiles text (Err refusal) → StandsIn text refusal }
 {}

@@ -1,4 +1,4 @@
--- How the pieces of an apply come to workers.
+-- How the pieces of an apply are assigned to workers.
 use Rattle.apply_options.specs.declared.apply_schedule.Parallelization.{Parallelization}
 use Rattle.apply_options.specs.declared.apply_schedule.Parallelization.TheVariants.{Serial, StaticVertex, DynamicVertex, EdgeAwareDynamicVertex}
 use Rattle.crew.specs.declared.piece_assignment.PieceAssignment.{PieceAssignment}

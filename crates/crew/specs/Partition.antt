@@ -11,7 +11,7 @@ AreEnds start length (e ∷ es) = (start < e) × AreEnds e length es
 abbrev pub end_of : (ends : List ℕ) → ℕ → ℕ
 end_of ends k = slice_index_or (0 ∷ ends) k 0
 
--- what stands in piece k
+-- what is in piece k
 abbrev pub piece_of : {A : Type 0} → (ends : List ℕ) → List A → ℕ → List A
 piece_of ends xs k = slice_range xs (end_of ends (k - 1)) (end_of ends k)
 

@@ -29,7 +29,7 @@ pub trait Work {
     /// What the piece of this number answers. The state is the worker's own: it is what an earlier piece
     /// left, or new.
     ///
-    /// Errors: out of memory. The state is then let go.
+    /// Errors: out of memory. The state is then dropped.
     fn piece(
         &self,
         alloc: Global,

@@ -8,7 +8,7 @@ use Rattle.decimal.specs.Numbers.{digits_number}
 abbrev pub BeginsWithDigits : List ℕ → ℕ → Type 0
 BeginsWithDigits bytes len = (len ≤ length bytes) × (all_ascii_digits (take len bytes) ≡ true)
 
--- the number and the count of the digits at the front, or nothing where they stand for 2 ^ 64 or more
+-- the number and the count of the digits at the front, or nothing where they mean 2 ^ 64 or more
 abbrev pub AreLeadingDigits : List ℕ → Option (ℕ × ℕ) → Type 0
 AreLeadingDigits bytes found = MatchOption found
     ((len : ℕ) × BeginsWithDigits bytes len × (2 ^ 64 ≤ digits_number (take len bytes)))

@@ -28,8 +28,8 @@ pub fn push_integer(out: &mut Vec<u8>, n: i64) -> Result<(), AllocError>
     out.extend_from_slice(digits.format(n).as_bytes())
 }
 
-/// The number that the digits at the front stand for, 0 for none, and how many they are; or `None`
-/// where they stand for 2^64 or more.
+/// The number that the digits at the front mean, 0 for none, and how many they are; or `None`
+/// where they mean 2^64 or more.
 #[inline]
 #[tactic(auto, using(crate::proofs::NumberLaws::digits_more, crate::proofs::NumberLaws::value_more))]
 pub fn leading_digits(bytes: &[u8]) -> Option<(u64, usize)>

@@ -8,7 +8,7 @@
 //! The promise: a history grows by exactly the bytes that a call answers for, and by none at an
 //! error. An error is a counted failure, and no failure is counted without one. So code that is
 //! generic over a `Feed` and a `Drain` can say what it wrote as a function of what it read.
-//! The history stands in contracts alone: it takes no memory, and has no bound.
+//! The history is in contracts alone: it takes no memory, and has no bound.
 //!
 //! A history says what the reader or writer inside answered. That those bytes reached a disk or a
 //! screen is more than a contract can know.

@@ -22,7 +22,7 @@ pub trait Feed {
     /// `Ok(0)` says that there is no more, unless `buffer` is empty.
     ///
     /// An error of the reader is an `Err`. It gives no byte and counts as a failure, and `buffer`
-    /// then holds anything. A later read may go on.
+    /// then holds anything. A later read may continue.
     fn read(&mut self, buffer: &mut [u8]) -> io::Result<usize>
         ensures bound { IfOk result (λ count. count ≤ length buffer.new) }
         ensures bytes_read { IfOk result (λ count.
@@ -50,7 +50,7 @@ pub trait Drain {
     /// `bytes` is empty.
     ///
     /// An error of the writer is an `Err`. It takes no byte and counts as a failure. A later write
-    /// may go on.
+    /// may continue.
     fn write(&mut self, bytes: &[u8]) -> io::Result<usize>
         ensures bound { IfOk result (λ count. count ≤ length bytes.now) }
         ensures bytes_written { IfOk result (λ count.

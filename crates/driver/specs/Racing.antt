@@ -93,7 +93,7 @@ pub record TellsNoRace (holds : List ℕ → List ℕ → Type 0) (fails : List 
   pub untouched : after ≡ before
   pub cause : LacksRace holds fails script names workers e
 
--- what a race of files comes to
+-- the outcome of a race of files
 abbrev pub RacesFiles : (List ℕ → List ℕ → Type 0) → (List ℕ → Error → Type 0) → List ℕ → List (List ℕ) → (workers turns : ℕ) → Written → Written
     → Result Bool ServeError → Type 0
 RacesFiles holds fails script names workers turns before after (Ok faulted) = TellsRace holds script names workers turns before after faulted

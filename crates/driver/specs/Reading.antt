@@ -46,7 +46,7 @@ pub record FailsRead (fails : Error → Type 0) (name : List ℕ) (e : ServeErro
   pub named : file.now ≡ name
   pub outcome : e ≡ of_file_read file error
 
--- The file of this name is no program: it cannot be read, or its text is refused. Nothing is said where memory runs out.
+-- The file of this name is no program: it cannot be read, or its text is refused. Nothing is said if memory runs out.
 abbrev pub IsNoProgram : (List ℕ → Type 0) → (Error → Type 0) → List ℕ → ServeError → Type 0
 IsNoProgram holds fails name NoMemory = Unit {0}
 IsNoProgram holds fails name ReadFailed = ⊥

@@ -1,4 +1,4 @@
--- Outcomes of serving a request and of doing a command line.
+-- Outcomes of a request and of a command line.
 use Rattle.std.specs.Prelude.{◌≡◌, ℕ, ◌<◌, Bool, true, false, List, [], ◌∷◌, ◌++◌, ◌⊎◌, Result, Ok, Err, map, codes}
 use Rattle.std.specs.Str.{bytes_eq}
 use Rattle.std.specs.declared.io.Error.{Error}
@@ -25,13 +25,13 @@ abbrev pub script_end_of : Result Bool ScriptError → Result Bool ServeError
 script_end_of (Ok faulted) = Ok faulted
 script_end_of (Err e) = Err (of_script e)
 
--- the standard input was run as a script without programs, which ended so
+-- the standard input was run as a script without programs, with this end
 pub record RunsInput (old new : Input) (before after : Written) (ended : Result Bool ServeError) : Type 0 where
   pub script_ended : Result Bool ScriptError
   pub runs : RunsScript [] old new before after script_ended
   pub ending : ended ≡ script_end_of script_ended
 
--- what is written of a program that compiles: `ok` and a line feed (10)
+-- the output for a program that compiles: `ok` and a line feed (10)
 abbrev pub ok_line : List ℕ
 ok_line = codes "ok" ++ 10 ∷ []
 
@@ -43,7 +43,7 @@ pub record TellsOk (holds : List ℕ → Type 0) (before after : Written) (fault
   pub quiet : after.failures ≡ before.failures
   pub fault : faulted ≡ false
 
--- nothing was written, since the file of this name is no program
+-- nothing was written, since the file of this name has no program
 pub record TellsNothing (holds : List ℕ → Type 0) (fails : Error → Type 0) (name : List ℕ) (before after : Written) (e : ServeError) : Type 0 where
   pub untouched : after ≡ before
   pub cause : IsNoProgram holds fails name e
@@ -56,7 +56,7 @@ pub record BeginsOk (holds : List ℕ → Type 0) (before after : Written) (e : 
   pub failed : before.failures < after.failures
   pub outcome : e ≡ WriteFailed
 
--- what checking the program in the file of this name comes to
+-- the outcome of checking the program in the file of this name
 abbrev pub ChecksFile : (List ℕ → Type 0) → (Error → Type 0) → List ℕ → Written → Written → Result Bool ServeError → Type 0
 ChecksFile holds fails name before after (Ok faulted) = TellsOk holds before after faulted
 ChecksFile holds fails name before after (Err e) = TellsNothing holds fails name before after e ⊎ BeginsOk holds before after e
@@ -81,12 +81,12 @@ pub record BeginsPlan (holds : List ℕ → Type 0) (before after : Written) (e 
   pub failed : before.failures < after.failures
   pub outcome : e ≡ WriteFailed
 
--- what printing the plan of the program in the file of this name comes to
+-- the outcome of printing the plan of the program in the file of this name
 abbrev pub PrintsPlan : (List ℕ → Type 0) → (Error → Type 0) → List ℕ → Written → Written → Result Bool ServeError → Type 0
 PrintsPlan holds fails name before after (Ok faulted) = TellsPlan holds before after faulted
 PrintsPlan holds fails name before after (Err e) = TellsNothing holds fails name before after e ⊎ BeginsPlan holds before after e
 
--- the files may hold these programs and this script, which was run with them and ended so
+-- the files may hold these programs and this script, which was run with them, with this end
 pub record RunsScriptOf (holds : List ℕ → List ℕ → Type 0) (script : List ℕ) (names : List (List ℕ)) (before after : Written)
     (ended : Result Bool ServeError) : Type 0 where
   pub programs : List ProgramTree
@@ -103,13 +103,13 @@ pub record RunsNone (holds : List ℕ → List ℕ → Type 0) (fails : List ℕ
   pub untouched : after ≡ before
   pub cause : LacksProgram holds fails names e ⊎ LacksScript holds fails script names e
 
--- what running the script in a file, with the programs in files, comes to
+-- the outcome of running the script in a file, with the programs in files
 abbrev pub RunsFiles : (List ℕ → List ℕ → Type 0) → (List ℕ → Error → Type 0) → List ℕ → List (List ℕ) → Written → Written → Result Bool ServeError → Type 0
 RunsFiles holds fails script names before after (Ok faulted) = RunsScriptOf holds script names before after (Ok faulted)
 RunsFiles holds fails script names before after (Err e) =
     RunsNone holds fails script names before after e ⊎ RunsScriptOf holds script names before after (Err e)
 
--- the files may hold these programs, and the standard input was run as a script with them, which ended so
+-- the files may hold these programs, and the standard input was run as a script with them, with this end
 pub record RunsStreamOf (holds : List ℕ → List ℕ → Type 0) (names : List (List ℕ)) (old new : Input) (before after : Written)
     (ended : Result Bool ServeError) : Type 0 where
   pub programs : List ProgramTree
@@ -125,7 +125,7 @@ pub record RunsNoStream (holds : List ℕ → List ℕ → Type 0) (fails : List
   pub untouched : after ≡ before
   pub cause : LacksProgram holds fails names e
 
--- what running the standard input, with the programs in files, comes to
+-- the outcome of running the standard input, with the programs in files
 abbrev pub RunsStream : (List ℕ → List ℕ → Type 0) → (List ℕ → Error → Type 0) → List (List ℕ) → Input → Input → Written → Written → Result Bool ServeError
     → Type 0
 RunsStream holds fails names old new before after (Ok faulted) = RunsStreamOf holds names old new before after (Ok faulted)
@@ -169,13 +169,13 @@ pub record ServesStream (holds : List ℕ → List ℕ → Type 0) (fails : List
   pub runs : RunsStream holds fails names old new before after ended
   pub ending : status ≡ status_of_end ended
 
--- what running a script comes to: that of the name `-` is the standard input, another one is a file
+-- the outcome of running a script: the name `-` means the standard input, another name means a file
 abbrev pub ServesScript : (is_stream : Bool) → (List ℕ → List ℕ → Type 0) → (List ℕ → Error → Type 0) → List ℕ → List (List ℕ) → Input → Input → Written
     → Written → ℕ → Type 0
 ServesScript true holds fails script names old new before after status = ServesStream holds fails names old new before after status
 ServesScript false holds fails script names old new before after status = ServesFiles holds fails script names old new before after status
 
--- what serving a request comes to
+-- the outcome of serving a request
 abbrev pub Serves : (List ℕ → List ℕ → Type 0) → (List ℕ → Error → Type 0) → Request → Input → Input → Written → Written → ℕ → Type 0
 Serves holds fails request.Input old new before after status = ServesInput old new before after status
 Serves holds fails (request.Check file) old new before after status = ServesCheck holds fails file.now old new before after status
@@ -185,7 +185,7 @@ Serves holds fails (request.Script script names) old new before after status =
 Serves holds fails (request.Race script names workers turns) old new before after status =
     ServesRace holds fails script.now (map (λ n. n.now) names.items) workers turns old new before after status
 
--- the words are without a fault, and what they ask for was done
+-- the words have no fault, and their request was served
 pub record RunsRequest (holds : List ℕ → List ℕ → Type 0) (fails : List ℕ → Error → Type 0) (words : List (List ℕ)) (old new : Input) (before after : Written)
     (status : ℕ) : Type 0 where
   pub request : Request
@@ -193,7 +193,7 @@ pub record RunsRequest (holds : List ℕ → List ℕ → Type 0) (fails : List 
   pub read : asked_by request ≡ request_of words
   pub done : Serves holds fails request old new before after status
 
--- the words were refused, for a fault of theirs or since memory ran out, and nothing else was done
+-- the words were refused, for a fault or since memory ran out, and nothing else was done
 pub record RefusesWords (words : List (List ℕ)) (old new : Input) (before after : Written) (status : ℕ) : Type 0 where
   pub error : RequestError
   pub cause : IsFaultAmong (fault_of command_line words) error
@@ -201,7 +201,7 @@ pub record RefusesWords (words : List (List ℕ)) (old new : Input) (before afte
   pub unread : new ≡ old
   pub untouched : after ≡ before
 
--- what doing a command line comes to
+-- the outcome of a command line
 abbrev pub Runs : (List ℕ → List ℕ → Type 0) → (List ℕ → Error → Type 0) → List (List ℕ) → Input → Input → Written → Written → ℕ → Type 0
 Runs holds fails words old new before after status =
     RunsRequest holds fails words old new before after status ⊎ RefusesWords words old new before after status

@@ -13,7 +13,7 @@ use std::alloc::{AllocError, AllocFailed};
 use std::io::ErrorKind;
 use std::{fmt, io};
 
-/// Why a request is not done to its end. The text is what standard error is told.
+/// Why a request is not done to its end. The text is what is written to standard error.
 #[derive(Clone, Copy, Debug)]
 pub enum ServeError<'a> {
     /// Memory ran out.
@@ -33,7 +33,7 @@ pub enum ServeError<'a> {
 }
 
 impl ServeError<'_> {
-    /// The number by which users know it: 900 where memory ran out, 901 where reading failed, 902 where writing did, 125
+    /// The number by which users know it: 900 if memory ran out, 901 where reading failed, 902 where writing did, 125
     /// where nothing was published, else that of the text, the script or the graph that is refused.
     pub fn number(&self) -> u16
         ensures { result ≡ number_of self.now }
@@ -48,7 +48,7 @@ impl ServeError<'_> {
         }
     }
 
-    /// The exit status: 4 where memory ran out or nothing was published, 5 where reading or writing failed, 1 where a
+    /// The exit status: 4 if memory ran out or nothing was published, 5 where reading or writing failed, 1 where a
     /// text or what it opens is refused.
     pub fn status(&self) -> u8
         ensures { result ≡ status_of self.now }

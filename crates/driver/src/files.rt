@@ -20,7 +20,7 @@ pub trait Files {
 
     /// Reads the file of this name whole.
     ///
-    /// Errors: of kind `OutOfMemory` where memory runs out, and of another kind where the file cannot
+    /// Errors: of kind `OutOfMemory` if memory runs out, and of another kind where the file cannot
     /// be opened or read.
     fn read(&self, alloc: Global, name: &str) -> io::Result<Vec<u8>>
         ensures { AnswersRead (may_hold self.now name.now) (may_fail self.now name.now) result };

@@ -19,7 +19,7 @@ use std::thread::Threads;
 /// Reads the words after the program's name, and does what they ask for; the answer is the exit status.
 ///
 /// It is that of `serve` where the words are a request. Where they are none, or ask for help, it is 2, and 4 where memory runs
-/// out over them; `err` is then told why, and `out` took nothing. With it comes what a script opened, as by `serve`.
+/// out over them; the reason is then written to `err`, and `out` took nothing. With it comes what a script opened, as by `serve`.
 pub fn run<T: AllocGlobal + Threads + Wait + Sync, F: Files, R: Feed, W: Drain, E: Drain>(
     rt: &T,
     words: &[&str],
@@ -49,7 +49,7 @@ fn refused<E: Drain>(error: &RequestError, err: &mut E) -> u8
     refusal_status(error)
 }
 
-/// The exit status after words that are no request, or that ask for help: 2, and 4 where memory ran out.
+/// The exit status after words that are no request, or that ask for help: 2, and 4 if memory ran out.
 pub fn refusal_status(error: &RequestError) -> u8
     ensures { result ≡ refusal_status_of error.now }
 {

@@ -25,21 +25,21 @@ use std::alloc::{AllocError, Global};
 use std::sync::Wait;
 use std::thread::Threads;
 
-// What is told of a program that compiles.
+// What is written of a program that compiles.
 const OK_LINE: &[u8] = b"ok\n";
 
 /// Does a request, and answers the exit status: 0 where all was done, or 3 where some run ended by a fault. `out` has then
 /// taken the line `ok` of a check, the text of a plan, the replies of a script, or the text of a race. With it comes what a
-/// script opened, where one was run, for the caller to let go: that takes time in proportion to the graph. A race may wait, for
+/// script opened, where one was run, for the caller to drop: that takes time in proportion to the graph. A race may wait, for
 /// the threads that commit and run; a script may, for those of a run by more than one worker.
 ///
 /// `Check` and `Plan` write once the program is compiled. `Script` and `Race` compile each program before they read the next
 /// file, and read the script's file last; a script of the name `-` is `input`, whose lines are answered as they come. The
 /// status is 1 where a program's text is refused, or where the script is none of a
-/// race, or its graph is refused; `err` is then told the file, `refused`, the number and where the fault stands, if
+/// race, or its graph is refused; the file, `refused`, the number and the place of the fault are then written to `err`, if
 /// that is known, and for a program's text the source line, what the number means and what to do; `out` took nothing. It is 4
-/// where memory runs out, or a run of a race finds nothing published, and 5
-/// where a file or `input` cannot be read or `out` fails; `err` is then told `refused` and the number, and `out` took a
+/// if memory runs out, or a run of a race finds nothing published, and 5
+/// where a file or `input` cannot be read or `out` fails; `refused` and the number are then written to `err`, and `out` took a
 /// beginning of that line or text or of the replies. A race writes nothing before all is run.
 pub fn serve<T: Threads + Wait + Sync, F: Files, R: Feed, W: Drain, E: Drain>(
     rt: &T,

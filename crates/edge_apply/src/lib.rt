@@ -1,4 +1,4 @@
-//! What both engines stand on: an apply of edge functions to the edges between two ends, and what is asked of whoever does it.
+//! What both engines use: an apply of edge functions to the edges between two ends, and what is asked of whoever does it.
 //!
 //! [`Apply`] is what an apply is given. `AreChangesOf` says, in the words of `algorithm_meaning` (`after_edges`), what it
 //! changes: the engines promise it, whichever way they go over the edges. What they share stands here: all vertices in a

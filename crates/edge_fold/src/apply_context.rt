@@ -5,7 +5,7 @@ ghost use Rattle.algorithm_meaning.specs.State.{StateValue};
 ghost use Rattle.kernels.specs.Registers.{HasSizes};
 ghost use Rattle.edge_fold.specs.Folded.{AreKernels, AreWeightless, are_weighted};
 ghost use Rattle.edge_fold.specs.FoldStarts.{first_entry};
-ghost use Rattle.edge_fold.specs.inside.FoldStarts.{opening_seed, start_of};
+ghost use Rattle.edge_fold.specs.inside.FoldStarts.{initial_seed, start_of};
 
 use crate::initial_entries::InitialEntries;
 use apply_options::Reduction;
@@ -39,9 +39,9 @@ pub struct ApplyContext<'a> {
 impl<'a> ApplyContext<'a> {
     /// What the new entries of a vector begin with.
     #[inline]
-    pub(crate) fn opening(self, vector: usize) -> InitialEntries<'a>
+    pub(crate) fn initial(self, vector: usize) -> InitialEntries<'a>
         ensures start { start_of result ≡ self.entry.start }
-        ensures seed { (v : ℕ) (h : ℤ) → opening_seed result v h ≡ first_entry self.entry vector v h }
+        ensures seed { (v : ℕ) (h : ℤ) → initial_seed result v h ≡ first_entry self.entry vector v h }
     {
         match self.start {
             FoldStart::OldEntry => InitialEntries::Entries(self.vectors.lane(vector)),

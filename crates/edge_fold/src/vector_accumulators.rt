@@ -147,10 +147,10 @@ impl VectorAccumulators {
             contribution.reduction,
             context.vertices,
         )?;
-        let opening = context.opening(contribution.vector);
+        let initial = context.initial(contribution.vector);
         self.slots[position]
             .entries
-            .join_column(opening, contribution, destinations)?;
+            .join_column(initial, contribution, destinations)?;
         Ok(())
     }
 
@@ -173,11 +173,11 @@ impl VectorAccumulators {
             contribution.reduction,
             context.vertices,
         )?;
-        let opening = context.opening(contribution.vector);
+        let initial = context.initial(contribution.vector);
         let entries = &mut self.slots[position].entries;
         entries.join_number(
             contribution.reduction,
-            opening,
+            initial,
             contribution.number,
             destinations,
         )?;
@@ -201,13 +201,13 @@ impl VectorAccumulators {
             (E.entries destinations.now) else [])) }
     {
         let position = self.position(alloc, given.vector, given.reduction, context.vertices)?;
-        let opening = context.opening(given.vector);
+        let initial = context.initial(given.vector);
         let numbers = NumberWith {
             number: context.vectors.lane(given.from).get(source as usize),
             operator: given.operator,
         };
         let entries = &mut self.slots[position].entries;
-        entries.join_weights(given.reduction, opening, numbers, destinations)?;
+        entries.join_weights(given.reduction, initial, numbers, destinations)?;
         Ok(())
     }
 
@@ -241,9 +241,9 @@ impl VectorAccumulators {
         let vector = of_vector.vector;
         let reduction = of_vector.reduction;
         let position = self.position(alloc, vector, reduction, context.vertices)?;
-        let opening = context.opening(vector);
+        let initial = context.initial(vector);
         let entries = &mut self.slots[position].entries;
-        entries.join_changes(reduction, opening, &of_vector.numbers)?;
+        entries.join_changes(reduction, initial, &of_vector.numbers)?;
         Ok(())
     }
 

@@ -30,21 +30,21 @@ times e (u ∷ us) = if names u e then times e us + 1 else times e us
 abbrev pub NamesOnce : List EdgeUpdate → Type 0
 NamesOnce us = (e : Edge) → times e us ≤ 1
 
--- the one stands before the other, or at its index
+-- the one is before the other, or at its index
 abbrev pub IsNotAfter : EdgeUpdate → EdgeUpdate → Type 0
 IsNotAfter a b = (vertex_of a ≤ vertex_of b) × (vertex_of a ≡ vertex_of b → neighbour_of a ≤ neighbour_of b)
 
--- the updates stand in order, after one
+-- the updates are in order, after one
 abbrev pub FollowInOrder : EdgeUpdate → List EdgeUpdate → Type 0
 FollowInOrder a [] = Unit {0}
 FollowInOrder a (u ∷ us) = IsNotAfter a u × FollowInOrder u us
 
--- the updates stand in order of vertex and then of neighbour
+-- the updates are in order of vertex and then of neighbour
 abbrev pub AreInOrder : List EdgeUpdate → Type 0
 AreInOrder [] = Unit {0}
 AreInOrder (u ∷ us) = FollowInOrder u us
 
--- the one stands before the other
+-- the one is before the other
 abbrev pub IsBefore : EdgeUpdate → EdgeUpdate → Type 0
 IsBefore a b = (vertex_of a ≤ vertex_of b) × (vertex_of a ≡ vertex_of b → neighbour_of a < neighbour_of b)
 

@@ -6,7 +6,7 @@ ghost use Rattle.edge_updates.specs.inside.LastUpdates.{begin_same, last_updates
 
 use crate::edge_update::EdgeUpdate;
 
-/// Keeps the last update of each edge, of updates that stand in order, and lets go of the others. It
+/// Keeps the last update of each edge, of updates that are in order, and drops the others. It
 /// takes linear time and no memory.
 pub fn keep_last(updates: &mut Vec<EdgeUpdate>)
     requires { AreInOrder updates.old.items }

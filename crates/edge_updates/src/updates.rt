@@ -9,7 +9,7 @@ use std::marker::Model;
 
 /// Lent updates, each with a weight for the edge if it is added. A contract sees the list of pairs.
 ///
-/// The weights stand in a column of their own. Where it is over, all weights are 1: where all are 1 it
+/// The weights are in a column of their own. Where it is over, all weights are 1: where all are 1 it
 /// may be empty.
 #[derive(Drop)]
 pub struct Updates<'a> {

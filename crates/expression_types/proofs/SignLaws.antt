@@ -7,7 +7,7 @@ use Rattle.syntax.specs.SourceTrees.{PrimaryTree, Bare}
 use Rattle.syntax.specs.ExpressionViews.{signed_operand}
 use Rattle.typed_tree.specs.declared.expression.Endpoint.{Endpoint}
 use Rattle.typed_tree.specs.declared.expression.VarRef.{VarRef}
-use Rattle.typed_tree.specs.BoolExpressionTree.{BoolExpressionTree, turned}
+use Rattle.typed_tree.specs.BoolExpressionTree.{BoolExpressionTree, inverted}
 use Rattle.typed_tree.specs.IntExpressionTree.{IntExpressionTree, Parameter, negated}
 use Rattle.expression_types.specs.declared.fault.Fault.{Fault}
 use Rattle.expression_types.specs.declared.fault.TypeRule.TheVariants as rule
@@ -23,7 +23,7 @@ use Rattle.expression_types.specs.ValueTree.{ValueTree, Integer, Condition, Vert
 abbrev signed : ℕ → Prefix → WithFaults ValueTree → WithFaults ValueTree
 signed at sign m = m >>= λ v. given_or_fault at rule.WrongType (signed_value sign v)
 
-nots : (at : ℕ) (signs : List Prefix) (c : BoolExpressionTree) → all_not signs ≡ true → signs_value at signs (Condition c) ≡ sure (Condition (turned (length signs) c))
+nots : (at : ℕ) (signs : List Prefix) (c : BoolExpressionTree) → all_not signs ≡ true → signs_value at signs (Condition c) ≡ sure (Condition (inverted (length signs) c))
 nots at [] c all = refl
 nots at (prefix.Not ∷ signs) c all = ap (signed at prefix.Not) (nots at signs c all)
 nots at (prefix.Minus ∷ signs) c all = absurd (false≢true all)
@@ -85,14 +85,14 @@ error_stays at first_fault signs (Vertex p) is = absurd (false≢true is)
 error_stays at first_fault signs (Set slot) is = absurd (false≢true is)
 error_stays at first_fault signs ErrorValue is = ap (outcome first_fault) (on_error at signs)
 
-pub condition_turned : (at : ℕ) (first_fault : Option Fault) (signs : List Prefix) (v : ValueTree) (c : BoolExpressionTree) → Some c ≡ as_condition v → all_not signs ≡ true
-    → outcome first_fault (signs_value at signs v) ≡ (Condition (turned (length signs) c), first_fault)
-condition_turned at first_fault signs (Integer e) c is all = cc
-condition_turned at first_fault signs (Condition d) c is all =
-    ap (outcome first_fault) (nots at signs d all) ∙ ap (λ d. (Condition (turned (length signs) d), first_fault)) (let h : d ≡ c = cc in h)
-condition_turned at first_fault signs (Vertex p) c is all = cc
-condition_turned at first_fault signs (Set slot) c is all = cc
-condition_turned at first_fault signs ErrorValue c is all = cc
+pub condition_inverted : (at : ℕ) (first_fault : Option Fault) (signs : List Prefix) (v : ValueTree) (c : BoolExpressionTree) → Some c ≡ as_condition v → all_not signs ≡ true
+    → outcome first_fault (signs_value at signs v) ≡ (Condition (inverted (length signs) c), first_fault)
+condition_inverted at first_fault signs (Integer e) c is all = cc
+condition_inverted at first_fault signs (Condition d) c is all =
+    ap (outcome first_fault) (nots at signs d all) ∙ ap (λ d. (Condition (inverted (length signs) d), first_fault)) (let h : d ≡ c = cc in h)
+condition_inverted at first_fault signs (Vertex p) c is all = cc
+condition_inverted at first_fault signs (Set slot) c is all = cc
+condition_inverted at first_fault signs ErrorValue c is all = cc
 
 pub condition_misses : (at : ℕ) (first_fault : Option Fault) (signs : List Prefix) (v : ValueTree) (c : BoolExpressionTree) → Some c ≡ as_condition v → all_not signs ≡ false
     → outcome first_fault (signs_value at signs v) ≡ (ErrorValue, wrong at first_fault)

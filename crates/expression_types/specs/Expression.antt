@@ -1,4 +1,4 @@
--- The typed tree of an expression and its faults, one equation for each rule of the grammar. All faults but those of names stand at the
+-- The typed tree of an expression and its faults, one equation for each rule of the grammar. All faults but those of names are at the
 -- first token of the statement or declaration around the expression.
 use Rattle.std.specs.Prelude.{ℕ, Bool, false, if◌then◌else◌, is_some, not, Option, Some, None}
 use Rattle.syntax.specs.declared.operators.Addition.{Addition}
@@ -92,7 +92,7 @@ abbrev mutual
   value_of scope at (ConjunctionThen c others) =
       conjunction_value scope at c >>= λ v. disjuncts scope at (first_condition v) others >>= grouped_conditions at
 
-  -- the conjunctions after the first `or`, after what stands on its left
+  -- the conjunctions after the first `or`, after what is on its left
   pub disjuncts : ScopeTree → ℕ → ConditionsTree → ExpressionTree → WithFaults ConditionsTree
   disjuncts scope at left (LastConjunction c) =
       conjunction_value scope at c >>= λ v. sure (beside_condition connective.Or left (first_condition v))
@@ -120,7 +120,7 @@ abbrev mutual
   sum_value scope at (TermThen t o others) =
       term_value scope at t >>= λ v. summands scope at (first_integer v) o others >>= grouped_integers at
 
-  -- the terms after the first operator, after what stands on its left
+  -- the terms after the first operator, after what is on its left
   pub summands : ScopeTree → ℕ → IntegersTree → Addition → SumTree → WithFaults IntegersTree
   summands scope at left o (LastTerm t) =
       term_value scope at t >>= λ v. sure (beside_integer (addition_operator o) left (first_integer v))

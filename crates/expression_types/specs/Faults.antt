@@ -20,16 +20,17 @@ number_of rule.BadLabel = 229
 abbrev pub comes_before : Fault → Fault → Bool
 comes_before f e = nat_lt f.at e.at || (f.at == e.at && nat_lt (number_of f.rule) (number_of e.rule))
 
--- the one of two that is told
+-- of two faults the one that is reported
 abbrev pub earlier : Option Fault → Fault → Fault
 earlier None f = f
 earlier (Some e) f = if comes_before f e then f else e
 
--- the one of all that is told, where one is noted already
+-- of these faults, and of the one that was found before, the one that is reported
 abbrev pub least_of : Option Fault → List Fault → Option Fault
 least_of first [] = first
 least_of first (f ∷ faults) = least_of (Some (earlier first f)) faults
 
+-- a value with the faults that were found on the way to it, in the order of the text
 pub record WithFaults (A : Type 0) : Type 0 where
   pub faults : List Fault
   pub value : A
@@ -38,21 +39,21 @@ pub record WithFaults (A : Type 0) : Type 0 where
 abbrev pub sure : {A : Type 0} → A → WithFaults A
 sure x = record { faults = []; value = x }
 
--- a fault, and the value to go on with
+-- a fault, and the value to continue with
 abbrev pub fault_at : {A : Type 0} → ℕ → TypeRule → A → WithFaults A
 fault_at at rule x = record { faults = record { at = at; rule = rule } ∷ []; value = x }
 
--- goes on with the value; no fault ends the way
+-- checks the next part with the value of the first; the faults of both are listed, in order
 infixl 10 ◌>>=◌
 abbrev pub ◌>>=◌ : {A B : Type 0} → WithFaults A → (A → WithFaults B) → WithFaults B
 m >>= next = record { faults = m.faults ++ (next m.value).faults; value = (next m.value).value }
 
--- the value, and the fault that is told where this one was noted before
+-- the value, and the fault that is reported if this one was found before
 abbrev pub outcome : {A : Type 0} → Option Fault → WithFaults A → A × Option Fault
 outcome first m = (m.value, least_of first m.faults)
 
--- The answer, as view sees it, and the fault that is noted after it, where old was noted before, are those that are wanted;
--- nothing is said where memory runs out.
+-- The value of the answer, as view sees it, is the wanted one, and the fault noted in new is the one that is reported if old was
+-- found before. If memory runs out, nothing is promised.
 abbrev pub ReportsFaults : {T A : Type 0} → (T → A) → Option Fault → Option Fault → Result T AllocError → WithFaults A → Type 0
 ReportsFaults view old new (Ok x) wanted = outcome old wanted ≡ (view x, new)
 ReportsFaults view old new (Err e) wanted = Unit {0}

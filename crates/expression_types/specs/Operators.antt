@@ -138,7 +138,7 @@ related_value relation.LessOrEqual left right = compared_value comparison.LessOr
 related_value relation.Greater left right = compared_value comparison.Greater left right
 related_value relation.GreaterOrEqual left right = compared_value comparison.GreaterOrEqual left right
 
--- an integer with its sign changed, a condition that is turned
+-- an integer with its sign changed, a condition that is inverted
 abbrev pub signed_value : Prefix → ValueTree → Option ValueTree
 signed_value prefix.Minus (Integer e) = Some (Integer (integer.Negative e))
 signed_value prefix.Minus (Condition c) = None

@@ -23,15 +23,15 @@ pub record ScopeTree : Type 0 where
 abbrev pub empty_scope : ℕ → ScopeTree
 empty_scope sets = record { visible = []; inside = inside.Main; integers = 0; conditions = 0; sets = sets }
 
--- how many indices of integers it takes; a `for` has its bound after its name
+-- the number of int indices that it takes; the counter of a `for` takes two, one for its bound
 abbrev pub integers_of : Entity → ℕ
 integers_of (entity.Edges weights) = 0
 integers_of (entity.Vector index) = 0
 integers_of (entity.ConstantSet slot) = 0
-integers_of (entity.IntegerConstant name n) = 0
-integers_of (entity.ConditionConstant name b) = 0
-integers_of (entity.IntegerVariable slot) = 1
-integers_of (entity.ConditionVariable slot) = 0
+integers_of (entity.IntConstant name n) = 0
+integers_of (entity.BoolConstant name b) = 0
+integers_of (entity.IntVariable slot) = 1
+integers_of (entity.BoolVariable slot) = 0
 integers_of (entity.SetVariable slot) = 0
 integers_of (entity.LoopVariable slot) = 2
 integers_of (entity.Parameter at) = 0
@@ -42,15 +42,15 @@ integers_of (entity.Filter index) = 0
 integers_of entity.Main = 0
 integers_of entity.Error = 0
 
--- how many indices of conditions
+-- the number of bool indices that it takes
 abbrev pub conditions_of : Entity → ℕ
 conditions_of (entity.Edges weights) = 0
 conditions_of (entity.Vector index) = 0
 conditions_of (entity.ConstantSet slot) = 0
-conditions_of (entity.IntegerConstant name n) = 0
-conditions_of (entity.ConditionConstant name b) = 0
-conditions_of (entity.IntegerVariable slot) = 0
-conditions_of (entity.ConditionVariable slot) = 1
+conditions_of (entity.IntConstant name n) = 0
+conditions_of (entity.BoolConstant name b) = 0
+conditions_of (entity.IntVariable slot) = 0
+conditions_of (entity.BoolVariable slot) = 1
 conditions_of (entity.SetVariable slot) = 0
 conditions_of (entity.LoopVariable slot) = 0
 conditions_of (entity.Parameter at) = 0
@@ -61,15 +61,15 @@ conditions_of (entity.Filter index) = 0
 conditions_of entity.Main = 0
 conditions_of entity.Error = 0
 
--- how many indices of vertex sets, of which the constant ones were taken at the beginning
+-- the number of set indices that it takes; those of constant sets are taken at the beginning
 abbrev pub sets_of : Entity → ℕ
 sets_of (entity.Edges weights) = 0
 sets_of (entity.Vector index) = 0
 sets_of (entity.ConstantSet slot) = 0
-sets_of (entity.IntegerConstant name n) = 0
-sets_of (entity.ConditionConstant name b) = 0
-sets_of (entity.IntegerVariable slot) = 0
-sets_of (entity.ConditionVariable slot) = 0
+sets_of (entity.IntConstant name n) = 0
+sets_of (entity.BoolConstant name b) = 0
+sets_of (entity.IntVariable slot) = 0
+sets_of (entity.BoolVariable slot) = 0
 sets_of (entity.SetVariable slot) = 1
 sets_of (entity.LoopVariable slot) = 0
 sets_of (entity.Parameter at) = 0
@@ -90,12 +90,12 @@ with_entity name entity scope = record {
   sets = scope.sets + sets_of entity;
 }
 
--- a name that is visible already stays what it was
+-- a declaration; if the name is visible already, it is a fault and changes nothing
 abbrev pub declared_over : Option Entity → Identifier → Entity → ScopeTree → WithFaults ScopeTree
 declared_over None name entity scope = sure (with_entity name.bytes entity scope)
 declared_over (Some old) name entity scope = fault_at name.at rule.Redeclared scope
 
--- what a name stands for, none where it is not there
+-- the meaning of a name, none if it is not visible
 abbrev pub found : {T : Type 0} → List ℕ → List (List ℕ × T) → Option T
 found name [] = None
 found name (e ∷ others) = if bytes_eq name e.0 then Some e.1 else found name others
@@ -107,11 +107,11 @@ declared name entity scope = declared_over (found name.bytes scope.visible) name
 abbrev pub entered : Inside → ScopeTree → ScopeTree
 entered inside scope = record scope { inside = inside }
 
--- what has to be known of a scope in order to come back to it
+-- the mark by which the end of a block restores a scope
 abbrev pub mark_of : ScopeTree → Mark
 mark_of scope = record { visible = length scope.visible; inside = scope.inside; integers = scope.integers; conditions = scope.conditions; sets = scope.sets }
 
--- the names that became visible since are forgotten
+-- the scope at a mark: the names since are dropped
 abbrev pub left : Mark → ScopeTree → ScopeTree
 left mark scope = record {
   visible = take mark.visible scope.visible;
@@ -121,6 +121,6 @@ left mark scope = record {
   sets = mark.sets;
 }
 
--- all names that were visible still are, before those that became so
+-- the names that were visible are the first of the new ones
 abbrev pub KeepsNames : ScopeTree → ScopeTree → Type 0
 KeepsNames old new = take (length old.visible) new.visible ≡ old.visible

@@ -16,7 +16,7 @@ use std::alloc::{AllocError, Global};
 use syntax::{Comparison, Conjunction, Expression, Name, Primary, Sum, Term, Unary};
 use typed_tree::{BoolExpression, Connective, IntExpression};
 
-/// The typed tree of an expression that stands in a statement or declaration whose first token is at this
+/// The typed tree of an expression that is in a statement or declaration whose first token is at this
 /// offset. Its faults are noted.
 #[cycle(types)]
 pub fn type_expression(

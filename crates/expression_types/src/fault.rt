@@ -20,9 +20,9 @@ pub enum TypeRule {
     NotReduction,
     /// An edge function writes a vector by one reduction only.
     MixedReductions,
-    /// An entry of a vector stands at a vertex that the function works on, and an index of `main` reads no entry.
+    /// An entry of a vector is at a vertex that the function works on, and an index of `main` reads no entry.
     WrongIndex,
-    /// `print` stands in `main` only.
+    /// `print` is in `main` only.
     PrintOutsideMain,
     /// A function `main` without parameters and result is there.
     NoMain,
@@ -72,7 +72,7 @@ pub fn note(first_fault: &mut Option<Fault>, at: usize, rule: TypeRule)
     }
 }
 
-/// Whether a fault is told rather than another.
+/// Whether a fault is reported rather than another.
 fn is_before(fault: Fault, other: Fault) -> bool
     ensures { result ≡ comes_before fault other }
 {

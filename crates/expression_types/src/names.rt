@@ -6,7 +6,7 @@ use indexmap::IndexMap;
 use std::alloc::{AllocError, Global};
 use std::marker::Model;
 
-/// Names in the order in which they came, each with what it stands for. A look-up takes the time of the name,
+/// Names in the order in which they came, each with what it means. A look-up takes the time of the name,
 /// however many there are.
 pub struct Names<T> {
     entries: IndexMap<Vec<u8>, T>,
@@ -37,7 +37,7 @@ impl<T: Copy> Names<T> {
         }
     }
 
-    /// What a name stands for, or `None` where it is not there.
+    /// What a name means, or `None` if it is not there.
     pub fn get(&self, name: &[u8]) -> Option<T>
         ensures { result ≡ found name.now self.now }
     {

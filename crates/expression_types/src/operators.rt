@@ -148,7 +148,7 @@ pub(crate) fn after_signs(
         return Ok(value);
     }
     if value.is_condition() {
-        return turned(alloc, signs, value, at, first_fault);
+        return inverted(alloc, signs, value, at, first_fault);
     }
     let Some(e) = value.into_integer() else {
         return Ok(fault(at, TypeRule::WrongType, first_fault));
@@ -161,7 +161,7 @@ pub(crate) fn after_signs(
 }
 
 /// A condition after signs.
-fn turned(
+fn inverted(
     alloc: Global,
     signs: &[Prefix],
     value: Value,

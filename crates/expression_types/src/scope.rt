@@ -20,13 +20,13 @@ pub enum Entity {
     /// A constant vertex set.
     ConstantSet(VarRef),
     /// A constant int: the index of its name in the program's names, and its value.
-    IntegerConstant(usize, i64),
+    IntConstant(usize, i64),
     /// A constant bool, in the same way.
-    ConditionConstant(usize, bool),
+    BoolConstant(usize, bool),
     /// A variable of type int.
-    IntegerVariable(VarRef),
+    IntVariable(VarRef),
     /// A variable of type bool, or a filter's result.
-    ConditionVariable(VarRef),
+    BoolVariable(VarRef),
     /// A variable that is a vertex set.
     SetVariable(VarRef),
     /// The name of a `for`.
@@ -112,7 +112,7 @@ impl Entity {
         ensures few { result ≤ 2 }
     {
         match self {
-            Entity::IntegerVariable(_) => 1,
+            Entity::IntVariable(_) => 1,
             Entity::LoopVariable(_) => 2,
             _ => 0,
         }
@@ -124,7 +124,7 @@ impl Entity {
         ensures few { result ≤ 1 }
     {
         match self {
-            Entity::ConditionVariable(_) => 1,
+            Entity::BoolVariable(_) => 1,
             _ => 0,
         }
     }

@@ -99,14 +99,12 @@ pub(crate) fn value_named(entity: Entity) -> Option<Value>
 {
     match entity {
         Entity::ConstantSet(slot) | Entity::SetVariable(slot) => Some(Value::Set(slot)),
-        Entity::IntegerConstant(name, n) => Some(Value::Integer(IntExpression::Constant(name, n))),
-        Entity::ConditionConstant(name, b) => Some(Value::Condition(BoolExpression::Constant(
-            name, b,
-        ))),
-        Entity::IntegerVariable(slot) | Entity::LoopVariable(slot) => {
+        Entity::IntConstant(name, n) => Some(Value::Integer(IntExpression::Constant(name, n))),
+        Entity::BoolConstant(name, b) => Some(Value::Condition(BoolExpression::Constant(name, b))),
+        Entity::IntVariable(slot) | Entity::LoopVariable(slot) => {
             Some(Value::Integer(IntExpression::Variable(slot)))
         }
-        Entity::ConditionVariable(slot) => Some(Value::Condition(BoolExpression::Variable(slot))),
+        Entity::BoolVariable(slot) => Some(Value::Condition(BoolExpression::Variable(slot))),
         Entity::Parameter(at) => Some(Value::Vertex(at)),
         Entity::Weight => Some(Value::Integer(IntExpression::Weight)),
         Entity::Error => Some(Value::Error),

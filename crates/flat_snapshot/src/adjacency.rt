@@ -24,7 +24,7 @@ pub(crate) struct Adjacency {
     blocks: Vec<Option<VertexBlock>>,
 }
 
-// By hand: a derived drop would be written out, and proved again, where neighbours are let go.
+// By hand: a derived drop would be written out, and proved again, where neighbours are dropped.
 impl Drop for Adjacency {
     fn drop(self) {
         let Adjacency { blocks: _ } = self;

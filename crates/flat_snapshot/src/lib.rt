@@ -11,7 +11,7 @@
 //! blocks are the graph's own, counted once more, so making a flat copies no list. A block never
 //! changes, so a flat may outlive its graph, and threads may share it.
 //!
-//! Engines that run programs over graphs stand on this crate. Flat snapshots are those of Aspen
+//! Engines that run programs over graphs depend on this crate. Flat snapshots are those of Aspen
 //! (Dhulipala, Blelloch, Shun, PLDI 2019), with a slot for each block in place of each vertex.
 #![tactic(auto)]
 

@@ -46,8 +46,8 @@ step_alike s vectors sizes (code.Arithmetic to o) c h from to' = refl
 step_alike s vectors sizes (code.Compare to o) c h from to' = refl
 step_alike s vectors sizes (code.Connect to o) c h from to' = refl
 step_alike s vectors sizes (code.Reduce to r) c h from to' = refl
-step_alike s vectors sizes (code.SetInteger index source predicate) c h from to' = refl
-step_alike s vectors sizes (code.SetCondition index source predicate) c h from to' = refl
+step_alike s vectors sizes (code.SetInt index source predicate) c h from to' = refl
+step_alike s vectors sizes (code.SetBool index source predicate) c h from to' = refl
 step_alike s vectors sizes (code.SetEntry vector source predicate) c h from to' = refl
 
 pub run_alike : (s : CodeInput) (vectors : List (List ℤ)) (sizes : List ℤ) (is : List RegisterInstruction) (c : Registers) → is_local_code is ≡ true

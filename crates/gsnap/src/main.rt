@@ -19,7 +19,7 @@ fn main(rt: HostRuntime) -> ExitCode {
         Ok(words) => serve(&rt, &rt, &words),
         Err(error) => refuse(&rt, &error),
     };
-    // The graph goes with the process: to let go of its nodes one by one takes time, and nobody needs them freed.
+    // The graph goes with the process: to free its nodes one by one takes time, and nobody needs them freed.
     forget(state);
     ExitCode::from(status)
 }

@@ -91,7 +91,7 @@ is_white b = (b == 32) || (b == 9) || (b == 13) || (b == 10)
 abbrev pub is_letter : ℕ → Bool
 is_letter b = is_ascii_alphabetic b || (b == 95)
 
--- what a word may go on with
+-- what a word may continue with
 abbrev pub is_word_byte : ℕ → Bool
 is_word_byte b = is_letter b || is_ascii_digit b
 

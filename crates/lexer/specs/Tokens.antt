@@ -1,4 +1,4 @@
--- Tokens: which texts are tokens, which tokens a text has and where they stand in it, and where a text without is at fault.
+-- Tokens: which texts are tokens, which tokens a text has and where they are in it, and where a text without is at fault.
 use Rattle.std.specs.Prelude.{◌≡◌, ◌≢◌, ℕ, pos, ◌+◌, ◌-◌, ◌<◌, ◌≤◌, ◌≤ℤ◌, true, List, [], ◌∷◌, ◌++◌, length, take, drop, Result, Ok, Err}
 use Rattle.std.specs.Str.{all_ascii_digits}
 use Rattle.std.specs.List.{AllByRecursion}
@@ -98,7 +98,7 @@ tokens_from at (piece ∷ pieces) =
 abbrev pub HasTokens : List ℕ → List Token → Type 0
 HasTokens text tokens = (pieces : List Piece) × IsReadUpTo text pieces [] × (tokens ≡ tokens_from 0 pieces)
 
--- no piece stands at the front
+-- no piece is at the front
 abbrev pub BeginsNoPiece : List ℕ → Type 0
 BeginsNoPiece text = (kind : PieceKind) (front rest : List ℕ) → text ≡ front ++ rest → IsPiece kind front → ⊥
 
@@ -112,13 +112,13 @@ abbrev pub BeginsUnfinishedText : List ℕ → Type 0
 BeginsUnfinishedText [] = ⊥
 BeginsUnfinishedText (b ∷ bytes) = (b ≡ 34) × BeginsNoPiece (b ∷ bytes)
 
--- digits, as many as stand there, for a number that is too large
+-- digits, as many as are there, for a number that is too large
 abbrev pub BeginsLargeNumber : List ℕ → Type 0
 BeginsLargeNumber text = (digits : List ℕ) × (rest : List ℕ) × (text ≡ digits ++ rest)
     × IsLongest (record { kind = Lexeme (kind.Number (pos (digits_number digits))); text = digits }) rest
     × (9223372036854775807 < digits_number digits)
 
--- after pieces, each the longest at its place, the fault stands at this offset
+-- after pieces, each the longest at its place, the fault is at this offset
 abbrev pub FaultsAt : (List ℕ → Type 0) → List ℕ → ℕ → Type 0
 FaultsAt BeginsFault text at = (pieces : List Piece) × (rest : List ℕ) × IsReadUpTo text pieces rest
     × BeginsFault rest × (at ≡ length (bytes_of pieces))
@@ -143,7 +143,7 @@ slice_of text span = take (span.end - span.start) (drop span.start text)
 abbrev pub AreGaps : List ℕ → Type 0
 AreGaps text = (gaps : List Piece) × AllByRecursion (λ gap. IsGap gap.kind × IsPiece gap.kind gap.text) gaps × (text ≡ bytes_of gaps)
 
--- From an offset on the tokens stand in the text one after the other, each with its own bytes at its span, and nothing
+-- From an offset on the tokens are in the text one after the other, each with its own bytes at its span, and nothing
 -- but gaps before, between and after them.
 abbrev pub AreTokensFrom : List ℕ → ℕ → List Token → Type 0
 AreTokensFrom text from [] = AreGaps (drop from text)

@@ -19,7 +19,7 @@ pub fn is_letter(byte: u8) -> bool
     byte.is_ascii_alphabetic() || byte == b'_'
 }
 
-/// Whether a word may go on with the byte.
+/// Whether a word may continue with the byte.
 #[inline]
 fn is_word_byte(byte: u8) -> bool
     ensures { result ≡ is_word_byte byte }
@@ -35,7 +35,7 @@ fn is_quotable(byte: u8) -> bool
     b' ' <= byte && byte <= b'~' && byte != b'"'
 }
 
-/// How many white bytes stand at the front.
+/// How many white bytes are at the front.
 #[inline]
 pub fn white_len(bytes: &[u8]) -> usize
     ensures { IsRun is_white bytes.now result }
@@ -46,7 +46,7 @@ pub fn white_len(bytes: &[u8]) -> usize
     }
 }
 
-/// How many bytes of a word stand at the front.
+/// How many bytes of a word are at the front.
 #[inline]
 pub fn word_len(bytes: &[u8]) -> usize
     ensures { IsRun is_word_byte bytes.now result }
@@ -57,7 +57,7 @@ pub fn word_len(bytes: &[u8]) -> usize
     }
 }
 
-/// How many bytes that may stand between quotes are at the front.
+/// How many bytes that may be between quotes are at the front.
 #[inline]
 pub fn quotable_len(bytes: &[u8]) -> usize
     ensures { IsRun is_quotable bytes.now result }
@@ -68,7 +68,7 @@ pub fn quotable_len(bytes: &[u8]) -> usize
     }
 }
 
-/// How many bytes stand before the first line feed, or at all.
+/// How many bytes are before the first line feed, or at all.
 #[inline]
 pub fn line_len(bytes: &[u8]) -> usize
     ensures { IsRun is_in_line bytes.now result }

@@ -1,4 +1,4 @@
-//! What stands at the front of bytes: the longest piece, or a fault.
+//! What is at the front of bytes: the longest piece, or a fault.
 ghost use Rattle.std.specs.Prelude.{◌≡◌, ◌≢◌, ◌+◌, ◌^◌, ◌<◌, ℕ, true, List, ◌∷◌, length, slice_index, MatchBool};
 ghost use Rattle.std.specs.Char.{is_ascii_digit};
 ghost use Rattle.lexer.specs.Spelling.{Every, is_letter, is_word_byte};
@@ -11,7 +11,7 @@ use crate::symbol::{Symbol, pair_symbol, single_symbol};
 use crate::token::TokenKind;
 use decimal::leading_digits;
 
-/// What stands at the front of bytes. Lengths are in bytes.
+/// What is at the front of bytes. Lengths are in bytes.
 #[derive(Clone, Copy, Debug, PartialEq, Eq)]
 pub(crate) enum Front {
     /// White bytes, or a comment.
@@ -22,7 +22,7 @@ pub(crate) enum Front {
     UnfinishedText,
 }
 
-/// What stands at the front of some bytes.
+/// What is at the front of some bytes.
 #[inline]
 pub(crate) fn read_front(bytes: &[u8]) -> Front
     requires { 0 < length bytes.now }
@@ -97,7 +97,7 @@ fn number(bytes: &[u8]) -> Front
     }
 }
 
-/// A label, given what stands after its first `#`: a name and another `#`.
+/// A label, given what is after its first `#`: a name and another `#`.
 #[inline]
 fn label(inside: &[u8]) -> Front
     requires { length inside.now + 1 < 2 ^ 64 }
@@ -124,7 +124,7 @@ fn is_name(bytes: &[u8]) -> bool
     }
 }
 
-/// A text in quotes, given what stands after its first quote.
+/// A text in quotes, given what is after its first quote.
 #[inline]
 fn quoted(inside: &[u8]) -> Front
     requires { length inside.now + 1 < 2 ^ 64 }
@@ -139,7 +139,7 @@ fn quoted(inside: &[u8]) -> Front
     }
 }
 
-/// A symbol, given its first byte and what stands after that, which together begin no comment.
+/// A symbol, given its first byte and what is after that, which together begin no comment.
 #[inline]
 fn symbol(first: u8, rest: &[u8]) -> Front
     requires class { class_of first ≡ Punctuation }

@@ -222,7 +222,7 @@ pub fn keyword_of(text: &[u8]) -> Option<Keyword>
     }
 }
 
-/// A place in the table, told by the length and the first two bytes. No two keywords have the same.
+/// A place in the table, found by the length and the first two bytes. No two keywords have the same.
 #[inline]
 fn place(text: &[u8]) -> usize
     ensures { result ≡ place_of text.now }

@@ -11,7 +11,7 @@ use crate::token::{Span, Token};
 use std::alloc::Global;
 
 /// The tokens of a text, in order. White bytes and comments stand between them, and each token is the
-/// longest that can stand at its place.
+/// longest that can be at its place.
 ///
 /// The first fault in text order is the error: `BadByte` at a byte that begins no token,
 /// `NumberTooLarge` at the first digit of a number above 9223372036854775807, `UnfinishedText` at the
@@ -48,8 +48,8 @@ pub fn one_reading()
     ensures { (text : List ℕ) (a b : Result (List Token) LexError) → Reads text a → Reads text b → a ≡ b }
 {}
 
-/// The law that the tokens of a text stand in it in their order: each has its own bytes at its span, the
-/// spans do not overlap, and only white bytes and comments stand before, between and after them. The
+/// The law that the tokens of a text are in it in their order: each has its own bytes at its span, the
+/// spans do not overlap, and only white bytes and comments are before, between and after them. The
 /// call does nothing.
 pub fn tokens_in_order()
     ensures { (text : List ℕ) (tokens : List Token) → HasTokens text tokens → AreTokensFrom text 0 tokens }

@@ -1,4 +1,4 @@
-//! Tokens, and where they stand in their text.
+//! Tokens, and where they are in their text.
 ghost use Rattle.std.specs.Prelude.{◌≡◌, ◌+◌, ◌-◌, ◌≤◌, length, take, drop, MatchOption};
 ghost use Rattle.lexer.specs.Tokens.{slice_of, IsSpanWithin};
 
@@ -20,7 +20,7 @@ pub enum TokenKind {
     Symbol(Symbol),
 }
 
-/// Where a token stands in its text: the offsets, in bytes, of its first byte and of the byte after its
+/// Where a token is in its text: the offsets, in bytes, of its first byte and of the byte after its
 /// last.
 #[derive(Clone, Copy, Debug, PartialEq, Eq)]
 pub struct Span {

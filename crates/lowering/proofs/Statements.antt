@@ -3,7 +3,7 @@ use Rattle.std.proofs.Common.{◌≡◌, ℕ, ◌+◌, Bool, false, Option, List
 use Rattle.typed_tree.specs.declared.statement.MainStatement.{MainStatement}
 use Rattle.typed_tree.specs.IntExpressionTree.{IntExpressionTree}
 use Rattle.typed_tree.specs.BoolExpressionTree.{BoolExpressionTree}
-use Rattle.typed_tree.specs.BlockTree.{StatementKindTree, DeclareInteger, If, IfElse, While, For, BlockTree, Then, block_tree}
+use Rattle.typed_tree.specs.BlockTree.{StatementKindTree, DeclareInt, If, IfElse, While, For, BlockTree, Then, block_tree}
 use Rattle.typed_tree.specs.ProgramTree.{ProgramTree}
 use Rattle.apply_options.specs.ScheduleTree.{ScheduleTree}
 use Rattle.algorithm_meaning.specs.declared.state.Depth.{Depth}
@@ -92,7 +92,7 @@ module _ (p : ProgramTree) (s : ScheduleTree) where
       (subst (λ q. Fills p g e n (plain number d (Unless t q))) index fills)
 
   pub puts_for : (a f b c g e : List Instruction) (n : ℕ) (d : Depth) (number : ℕ) (label : Option ℕ) (name : ℕ) (first end : IntExpressionTree) (body : BlockTree)
-      → Puts p a f (plain number d (Do (DeclareInteger name first)) ∷ loop_step number (depth_with_integer d) d (Enter name end) ∷ [])
+      → Puts p a f (plain number d (Do (DeclareInt name first)) ∷ loop_step number (depth_with_integer d) d (Enter name end) ∷ [])
       → BeginsLoop p f b n (loop_step number (depth_in_loop d) d Turn) → Puts p b c (plan_all p s (length b) (depth_in_loop d) false body)
       → Puts p c g (plain number d (Advance name) ∷ loop_step number (depth_in_loop d) d (Jump n) ∷ []) → Fills p g e n (loop_step number (depth_in_loop d) d (UnlessBelow name (length g)))
       → Puts p a e (plan p s (length a) d number label (For name first end body))

@@ -1,6 +1,6 @@
 //! Statements without blocks: one instruction each.
 ghost use Rattle.std.specs.Prelude.{◌≡◌, ◌++◌, ◌∷◌, [], IfOk, OnOk, length, slice_set, vec_len};
-ghost use Rattle.typed_tree.specs.BlockTree.{DeclareInteger, statement_kind_tree};
+ghost use Rattle.typed_tree.specs.BlockTree.{DeclareInt, statement_kind_tree};
 ghost use Rattle.typed_tree.specs.BoolExpressionTree.{bool_expression_tree};
 ghost use Rattle.typed_tree.specs.IntExpressionTree.{int_expression_tree};
 ghost use Rattle.typed_tree.specs.ProgramTree.{program_tree};
@@ -16,7 +16,7 @@ ghost use Rattle.lowering.specs.Text.{IsWritten, operation_words, shown_part};
 ghost use Rattle.lowering.specs.inside.Visible.{depth_of};
 
 use crate::blocks::Lowering;
-use crate::operations::{condition_kernel, integer_kernel, operation_of};
+use crate::operations::{bool_kernel, int_kernel, operation_of};
 use crate::visible::Visible;
 use algorithm_meaning::Depth;
 use apply_options::ApplySchedule;
@@ -107,7 +107,7 @@ impl Lowering<'_> {
             program: self.program,
         }
         .put_unless(&mut words, c)?;
-        let test = condition_kernel(self.alloc, c, head.keep)?;
+        let test = bool_kernel(self.alloc, c, head.keep)?;
         Ok(instruction_of(head, PlanOperation::Unless { test, to }, words))
     }
 
@@ -168,7 +168,7 @@ impl Lowering<'_> {
         code: &mut Vec<Instruction>,
     ) -> Result<(), AllocError>
         ensures { OnOk result (Puts (program_tree self.entry.program.now) code.old.items code.new.items
-            (plain_tree number depth (Do (DeclareInteger name (int_expression_tree e.now))) ∷ [])) }
+            (plain_tree number depth (Do (DeclareInt name (int_expression_tree e.now))) ∷ [])) }
     {
         code.push(self.first(number, depth, name, e)?)?;
         Ok(())
@@ -183,18 +183,18 @@ impl Lowering<'_> {
         e: &IntExpression,
     ) -> Result<Instruction, AllocError>
         ensures { IfOk result (λ i. IsWritten (program_tree self.entry.program.now) i
-            (plain_tree number depth (Do (DeclareInteger name (int_expression_tree e.now))))) }
+            (plain_tree number depth (Do (DeclareInt name (int_expression_tree e.now))))) }
     {
         let mut words = Vec::new(self.alloc);
         Lines {
             program: self.program,
         }
         .put_set_integer(&mut words, name, e)?;
-        let value = integer_kernel(self.alloc, e, depth)?;
+        let value = int_kernel(self.alloc, e, depth)?;
         Ok(plain(
             number,
             depth,
-            PlanOperation::DeclareInteger { name, value },
+            PlanOperation::DeclareInt { name, value },
             words,
         ))
     }
@@ -229,7 +229,7 @@ impl Lowering<'_> {
             program: self.program,
         }
         .put_bound(&mut words, name, e)?;
-        let end = integer_kernel(self.alloc, e, head.shown)?;
+        let end = int_kernel(self.alloc, e, head.shown)?;
         Ok(instruction_of(head, PlanOperation::Enter { name, end }, words))
     }
 
@@ -351,21 +351,21 @@ impl Lowering<'_> {
         code: &mut Vec<Instruction>,
     ) -> Result<(), AllocError>
         ensures code { OnOk result (Puts (program_tree self.entry.program.now) code.old.items code.new.items
-            (plain_tree number (depth_of visible.old) (Do (DeclareInteger range.entry.name (int_expression_tree range.entry.first.now)))
+            (plain_tree number (depth_of visible.old) (Do (DeclareInt range.entry.name (int_expression_tree range.entry.first.now)))
             ∷ loop_step number (depth_with_integer (depth_of visible.old)) (depth_of visible.old) (Enter range.entry.name (int_expression_tree range.entry.end.now)) ∷ [])) }
         ensures visible { OnOk result (depth_of visible.new ≡ depth_in_loop (depth_of visible.old)) }
     {
         let ForRange { name, first, end } = range;
         let depth = visible.depth();
         self.put_first(number, depth, name, first, code)?;
-        visible.declare_integer(name)?;
+        visible.declare_int(name)?;
         let head = InstructionHead {
             number,
             keep: visible.depth(),
             shown: depth,
         };
         self.put_enter(head, name, end, code)?;
-        visible.declare_integer(name)
+        visible.declare_int(name)
     }
 
     /// Puts the instruction of a statement without a block.

@@ -3,7 +3,7 @@ ghost use Rattle.std.specs.Prelude.{◌≡◌, IfOk, MatchOption, Some};
 ghost use Rattle.typed_tree.specs.BlockTree.{statement_kind_tree};
 ghost use Rattle.typed_tree.specs.BoolExpressionTree.{bool_expression_tree};
 ghost use Rattle.typed_tree.specs.IntExpressionTree.{int_expression_tree};
-ghost use Rattle.kernels.specs.Kernels.{IsConditionKernel, IsIntegerKernel};
+ghost use Rattle.kernels.specs.Kernels.{IsBoolKernel, IsIntKernel};
 ghost use Rattle.plans.specs.Fusing.{EdgeApplyTree, edge_apply_of as edge_apply_in};
 ghost use Rattle.plans.specs.Instruction.{Do};
 ghost use Rattle.plans.specs.Operation.{set_value, IsFor, IsOperation};
@@ -17,24 +17,24 @@ use std::alloc::{AllocError, Global};
 use typed_tree::{BoolExpression, IntExpression, SetValue, StatementKind};
 
 /// The kernel of an expression of type `int` where so much is visible.
-pub(crate) fn integer_kernel(
+pub(crate) fn int_kernel(
     alloc: Global,
     e: &IntExpression,
     depth: Depth,
 ) -> Result<ExpressionKernel, AllocError>
-    ensures kernel { IfOk result (λ k. IsIntegerKernel k (int_expression_tree e.now)) }
+    ensures kernel { IfOk result (λ k. IsIntKernel k (int_expression_tree e.now)) }
     ensures visible { IfOk result (λ k. IsFor depth k) }
 {
     ExpressionKernel::of_integer(alloc, e, depth.integers, depth.conditions)
 }
 
 /// The kernel of an expression of type `bool` where so much is visible.
-pub(crate) fn condition_kernel(
+pub(crate) fn bool_kernel(
     alloc: Global,
     c: &BoolExpression,
     depth: Depth,
 ) -> Result<ExpressionKernel, AllocError>
-    ensures kernel { IfOk result (λ k. IsConditionKernel k (bool_expression_tree c.now)) }
+    ensures kernel { IfOk result (λ k. IsBoolKernel k (bool_expression_tree c.now)) }
     ensures visible { IfOk result (λ k. IsFor depth k) }
 {
     ExpressionKernel::of_condition(alloc, c, depth.integers, depth.conditions)
@@ -49,38 +49,38 @@ pub(crate) fn operation_of(
     ensures { IfOk result (λ o. HasNoBlock (statement_kind_tree action.now) → IsOperation depth depth o (Do (statement_kind_tree action.now))) }
 {
     match action {
-        StatementKind::DeclareInteger(name, e) => {
-            let value = integer_kernel(alloc, e, depth)?;
-            Ok(PlanOperation::DeclareInteger { name: *name, value })
+        StatementKind::DeclareInt(name, e) => {
+            let value = int_kernel(alloc, e, depth)?;
+            Ok(PlanOperation::DeclareInt { name: *name, value })
         }
-        StatementKind::DeclareCondition(name, c) => {
-            let value = condition_kernel(alloc, c, depth)?;
-            Ok(PlanOperation::DeclareCondition { name: *name, value })
+        StatementKind::DeclareBool(name, c) => {
+            let value = bool_kernel(alloc, c, depth)?;
+            Ok(PlanOperation::DeclareBool { name: *name, value })
         }
-        StatementKind::SetInteger(slot, e) => {
-            let value = integer_kernel(alloc, e, depth)?;
-            Ok(PlanOperation::SetInteger { slot: *slot, value })
+        StatementKind::SetInt(slot, e) => {
+            let value = int_kernel(alloc, e, depth)?;
+            Ok(PlanOperation::SetInt { slot: *slot, value })
         }
-        StatementKind::SetCondition(slot, c) => {
-            let value = condition_kernel(alloc, c, depth)?;
-            Ok(PlanOperation::SetCondition { slot: *slot, value })
+        StatementKind::SetBool(slot, c) => {
+            let value = bool_kernel(alloc, c, depth)?;
+            Ok(PlanOperation::SetBool { slot: *slot, value })
         }
-        StatementKind::ReduceInteger(slot, reduction, e) => {
-            let value = integer_kernel(alloc, e, depth)?;
-            Ok(PlanOperation::ReduceInteger {
+        StatementKind::ReduceInt(slot, reduction, e) => {
+            let value = int_kernel(alloc, e, depth)?;
+            Ok(PlanOperation::ReduceInt {
                 slot: *slot,
                 reduction: *reduction,
                 value,
             })
         }
-        StatementKind::PrintCondition(c) => {
-            let value = condition_kernel(alloc, c, depth)?;
-            Ok(PlanOperation::PrintCondition { value })
+        StatementKind::PrintBool(c) => {
+            let value = bool_kernel(alloc, c, depth)?;
+            Ok(PlanOperation::PrintBool { value })
         }
         StatementKind::SetEntry(_, _, _)
         | StatementKind::ReduceEntry(_, _, _, _)
         | StatementKind::AddVertex(_, _)
-        | StatementKind::PrintInteger(_)
+        | StatementKind::PrintInt(_)
         | StatementKind::DeclareSet(_, _)
         | StatementKind::AssignSet(_, _)
         | StatementKind::ApplyVertex(_, _)
@@ -102,8 +102,8 @@ fn other_operation(
 {
     match action {
         StatementKind::SetEntry(vector, index, e) => {
-            let index = integer_kernel(alloc, index, depth)?;
-            let value = integer_kernel(alloc, e, depth)?;
+            let index = int_kernel(alloc, index, depth)?;
+            let value = int_kernel(alloc, e, depth)?;
             Ok(PlanOperation::SetEntry {
                 vector: *vector,
                 index,
@@ -111,8 +111,8 @@ fn other_operation(
             })
         }
         StatementKind::ReduceEntry(vector, index, reduction, e) => {
-            let index = integer_kernel(alloc, index, depth)?;
-            let value = integer_kernel(alloc, e, depth)?;
+            let index = int_kernel(alloc, index, depth)?;
+            let value = int_kernel(alloc, e, depth)?;
             Ok(PlanOperation::ReduceEntry {
                 vector: *vector,
                 index,
@@ -121,15 +121,15 @@ fn other_operation(
             })
         }
         StatementKind::AddVertex(slot, e) => {
-            let vertex = integer_kernel(alloc, e, depth)?;
+            let vertex = int_kernel(alloc, e, depth)?;
             Ok(PlanOperation::AddVertex {
                 slot: *slot,
                 vertex,
             })
         }
-        StatementKind::PrintInteger(e) => {
-            let value = integer_kernel(alloc, e, depth)?;
-            Ok(PlanOperation::PrintInteger { value })
+        StatementKind::PrintInt(e) => {
+            let value = int_kernel(alloc, e, depth)?;
+            Ok(PlanOperation::PrintInt { value })
         }
         StatementKind::DeclareSet(_, _)
         | StatementKind::AssignSet(_, _)

@@ -47,8 +47,8 @@ impl Visible {
         ensures { OnOk result (depth_of self.new ≡ depth_after (statement_kind_tree action.now) (depth_of self.old)) }
     {
         match action {
-            StatementKind::DeclareInteger(name, _) => self.integers.push(*name)?,
-            StatementKind::DeclareCondition(name, _) => self.conditions.push(*name)?,
+            StatementKind::DeclareInt(name, _) => self.integers.push(*name)?,
+            StatementKind::DeclareBool(name, _) => self.conditions.push(*name)?,
             StatementKind::DeclareSet(name, _) => self.sets.push(*name)?,
             _ => {}
         }
@@ -56,7 +56,7 @@ impl Visible {
     }
 
     /// With one more integer: a `for`'s name, or its bound.
-    pub(crate) fn declare_integer(&mut self, name: usize) -> Result<(), AllocError>
+    pub(crate) fn declare_int(&mut self, name: usize) -> Result<(), AllocError>
         ensures { OnOk result (depth_of self.new ≡ depth_with_integer (depth_of self.old)) }
     {
         self.integers.push(name)?;

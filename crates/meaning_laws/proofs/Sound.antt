@@ -7,8 +7,8 @@ use Rattle.std.specs.Option.{option_and_then}
 use Rattle.std.specs.List.{AllByRecursion, concat}
 use Rattle.typed_tree.specs.declared.statement.SetValue.{SetValue}
 use Rattle.typed_tree.specs.declared.statement.SetValue.TheVariants as set
-use Rattle.typed_tree.specs.BlockTree.{StatementKindTree, DeclareInteger, DeclareCondition, SetInteger, SetCondition, ReduceInteger, SetEntry, ReduceEntry, DeclareSet, AssignSet, AddVertex}
-use Rattle.typed_tree.specs.BlockTree.{PrintInteger, PrintCondition, ApplyVertex, ApplyEdges, If, IfElse, While, For, BlockTree, Empty, Then}
+use Rattle.typed_tree.specs.BlockTree.{StatementKindTree, DeclareInt, DeclareBool, SetInt, SetBool, ReduceInt, SetEntry, ReduceEntry, DeclareSet, AssignSet, AddVertex}
+use Rattle.typed_tree.specs.BlockTree.{PrintInt, PrintBool, ApplyVertex, ApplyEdges, If, IfElse, While, For, BlockTree, Empty, Then}
 use Rattle.typed_tree.specs.ProgramTree.{ProgramTree}
 use Rattle.algorithm_meaning.specs.declared.outcome.End.TheVariants.{TurnsOver}
 use Rattle.algorithm_meaning.specs.declared.state.Depth.{Depth}
@@ -20,7 +20,7 @@ use Rattle.algorithm_meaning.specs.Function.{lets_through}
 use Rattle.algorithm_meaning.specs.Statements.{condition_line, integer_line}
 use Rattle.algorithm_meaning.specs.VertexSets.{inserted, members_for, set_members}
 use Rattle.algorithm_meaning.specs.Loop.{bounds_in, depth_of, for_body, for_test, leave, loop, next_of, take_turn, while_body, while_test}
-use Rattle.algorithm_meaning.specs.Meaning.{after, after_all, full_set, opening, meaning, named_set, outcome_of}
+use Rattle.algorithm_meaning.specs.Meaning.{after, after_all, full_set, initial_state, meaning, named_set, outcome_of}
 use Rattle.meaning_laws.specs.Members.{AreVertices}
 use Rattle.meaning_laws.specs.Printing.{IsPrinted, IsPrintedLine}
 use Rattle.meaning_laws.proofs.Ascending.{inserted_vertices, no_vertices}
@@ -128,11 +128,11 @@ module _ (n : ℕ) where
 module _ (p : ProgramTree) (g : GraphValue) where
   mutual
     action_sound : (a : StatementKindTree) (number : ℕ) (s : StateValue) → IsSound g.vertices s → Sound g.vertices (after p g number a s)
-    action_sound (DeclareInteger name e) number s is = value_sound g.vertices (int_value_in g.vertices e s) number s _ is (λ x. record { printed = is.printed; sets = is.sets })
-    action_sound (DeclareCondition name c) number s is = value_sound g.vertices (bool_value_in g.vertices c s) number s _ is (λ b. record { printed = is.printed; sets = is.sets })
-    action_sound (SetInteger slot e) number s is = value_sound g.vertices (int_value_in g.vertices e s) number s _ is (λ x. record { printed = is.printed; sets = is.sets })
-    action_sound (SetCondition slot c) number s is = value_sound g.vertices (bool_value_in g.vertices c s) number s _ is (λ b. record { printed = is.printed; sets = is.sets })
-    action_sound (ReduceInteger slot reduction e) number s is = value_sound g.vertices (int_value_in g.vertices e s) number s _ is (λ x. record { printed = is.printed; sets = is.sets })
+    action_sound (DeclareInt name e) number s is = value_sound g.vertices (int_value_in g.vertices e s) number s _ is (λ x. record { printed = is.printed; sets = is.sets })
+    action_sound (DeclareBool name c) number s is = value_sound g.vertices (bool_value_in g.vertices c s) number s _ is (λ b. record { printed = is.printed; sets = is.sets })
+    action_sound (SetInt slot e) number s is = value_sound g.vertices (int_value_in g.vertices e s) number s _ is (λ x. record { printed = is.printed; sets = is.sets })
+    action_sound (SetBool slot c) number s is = value_sound g.vertices (bool_value_in g.vertices c s) number s _ is (λ b. record { printed = is.printed; sets = is.sets })
+    action_sound (ReduceInt slot reduction e) number s is = value_sound g.vertices (int_value_in g.vertices e s) number s _ is (λ x. record { printed = is.printed; sets = is.sets })
     action_sound (SetEntry vector subscript e) number s is =
         value_sound g.vertices (vertex_in g.vertices subscript s) number s _ is
         (λ v. value_sound g.vertices (int_value_in g.vertices e s) number s _ is (λ x. record { printed = is.printed; sets = is.sets }))
@@ -151,9 +151,9 @@ module _ (p : ProgramTree) (g : GraphValue) where
               (inserted_vertices g.vertices v (members_of (slice_get s.sets slot.index)) (found_below g.vertices v (int_value_in g.vertices e s) found)
               (members_are g.vertices s.sets slot.index is.sets));
         })
-    action_sound (PrintInteger e) number s is =
+    action_sound (PrintInt e) number s is =
         value_sound g.vertices (int_value_in g.vertices e s) number s _ is (λ x. record { printed = printed_line s.text (integer_line x) is.printed (inl (x, refl)); sets = is.sets })
-    action_sound (PrintCondition c) number s is =
+    action_sound (PrintBool c) number s is =
         value_sound g.vertices (bool_value_in g.vertices c s) number s _ is (λ b. record { printed = printed_line s.text (condition_line b) is.printed (inr (b, refl)); sets = is.sets })
     action_sound (ApplyVertex set function) number s is = record { printed = is.printed; sets = is.sets }
     action_sound (ApplyEdges ends function) number s is = record { printed = is.printed; sets = is.sets }
@@ -179,8 +179,8 @@ module _ (p : ProgramTree) (g : GraphValue) where
   first_constants [] = tt
   first_constants (name ∷ names) = (whole_vertices g.vertices, first_constants names)
 
-  opening_sound : (turns : ℕ) → IsSound g.vertices (opening p g turns)
-  opening_sound turns = record { printed = ([], tt, refl); sets = first_constants p.sets }
+  initial_state_sound : (turns : ℕ) → IsSound g.vertices (initial_state p g turns)
+  initial_state_sound turns = record { printed = ([], tt, refl); sets = first_constants p.sets }
 
   named_sets : (sets : List SetBinding) → AreSets g.vertices sets → AllByRecursion (λ set. AreVertices g.vertices set.members) (map (named_set p.names) sets)
   named_sets [] are = tt
@@ -195,7 +195,7 @@ module _ (p : ProgramTree) (g : GraphValue) where
   outcome_sets turns (Over s end) is = named_sets s.sets is.sets
 
 pub prints : (p : ProgramTree) (g : GraphValue) (turns : ℕ) → IsPrinted (meaning p g turns).text
-prints p g turns = outcome_prints p g turns (after_all p g p.main (opening p g turns)) (block_sound p g p.main (opening p g turns) (opening_sound p g turns))
+prints p g turns = outcome_prints p g turns (after_all p g p.main (initial_state p g turns)) (block_sound p g p.main (initial_state p g turns) (initial_state_sound p g turns))
 
 pub shows_vertices : (p : ProgramTree) (g : GraphValue) (turns : ℕ) → AllByRecursion (λ set. AreVertices g.vertices set.members) (meaning p g turns).sets
-shows_vertices p g turns = outcome_sets p g turns (after_all p g p.main (opening p g turns)) (block_sound p g p.main (opening p g turns) (opening_sound p g turns))
+shows_vertices p g turns = outcome_sets p g turns (after_all p g p.main (initial_state p g turns)) (block_sound p g p.main (initial_state p g turns) (initial_state_sound p g turns))

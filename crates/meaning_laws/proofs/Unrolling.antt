@@ -1,8 +1,8 @@
 -- Turns never grow, and so the number with which a loop is read says nothing.
 use Rattle.std.proofs.Common.{◌≡◌, ℕ, zero, suc, ◌+◌, ◌≤◌, Bool, true, false, int_lt, Option, Some, None, refl, sym, ap, ◌∙◌, arith, le_refl}
 use Rattle.typed_tree.specs.BoolExpressionTree.{BoolExpressionTree}
-use Rattle.typed_tree.specs.BlockTree.{StatementKindTree, DeclareInteger, DeclareCondition, SetInteger, SetCondition, ReduceInteger, SetEntry, ReduceEntry, DeclareSet, AssignSet, AddVertex}
-use Rattle.typed_tree.specs.BlockTree.{PrintInteger, PrintCondition, ApplyVertex, ApplyEdges, If, IfElse, While, For, BlockTree, Empty, Then}
+use Rattle.typed_tree.specs.BlockTree.{StatementKindTree, DeclareInt, DeclareBool, SetInt, SetBool, ReduceInt, SetEntry, ReduceEntry, DeclareSet, AssignSet, AddVertex}
+use Rattle.typed_tree.specs.BlockTree.{PrintInt, PrintBool, ApplyVertex, ApplyEdges, If, IfElse, While, For, BlockTree, Empty, Then}
 use Rattle.typed_tree.specs.ProgramTree.{ProgramTree}
 use Rattle.algorithm_meaning.specs.declared.outcome.End.TheVariants.{Finished, TurnsOver, Fault}
 use Rattle.algorithm_meaning.specs.declared.state.Depth.{Depth}
@@ -10,7 +10,7 @@ use Rattle.algorithm_meaning.specs.declared.state.LoopCounter.{LoopCounter}
 use Rattle.algorithm_meaning.specs.State.{GraphValue, StateValue}
 use Rattle.algorithm_meaning.specs.Stand.{Stand, Live, Over, then_do, int_value_in, vertex_in, bool_value_in, with_value, choose}
 use Rattle.algorithm_meaning.specs.Loop.{after_for, after_while, bounds_in, depth_of, for_body, for_test, inside, leave, loop, next_of, take_turn, while_body, while_test}
-use Rattle.algorithm_meaning.specs.Meaning.{after, after_all, opening, meaning, outcome_of}
+use Rattle.algorithm_meaning.specs.Meaning.{after, after_all, initial_state, meaning, outcome_of}
 
 -- no more than n turns are left, and none where they ran out
 abbrev Falls : ℕ → Stand → Type 0
@@ -94,19 +94,19 @@ module _ {A : Type 0} (test : A → StateValue → Option Bool) (body : A → St
 module _ (p : ProgramTree) (g : GraphValue) where
   mutual
     action_falls : (a : StatementKindTree) (n number : ℕ) (s : StateValue) → s.turns ≤ n → Falls n (after p g number a s)
-    action_falls (DeclareInteger name e) n number s le = value_falls n (int_value_in g.vertices e s) number s _ (λ x. le)
-    action_falls (DeclareCondition name c) n number s le = value_falls n (bool_value_in g.vertices c s) number s _ (λ b. le)
-    action_falls (SetInteger slot e) n number s le = value_falls n (int_value_in g.vertices e s) number s _ (λ x. le)
-    action_falls (SetCondition slot c) n number s le = value_falls n (bool_value_in g.vertices c s) number s _ (λ b. le)
-    action_falls (ReduceInteger slot reduction e) n number s le = value_falls n (int_value_in g.vertices e s) number s _ (λ x. le)
+    action_falls (DeclareInt name e) n number s le = value_falls n (int_value_in g.vertices e s) number s _ (λ x. le)
+    action_falls (DeclareBool name c) n number s le = value_falls n (bool_value_in g.vertices c s) number s _ (λ b. le)
+    action_falls (SetInt slot e) n number s le = value_falls n (int_value_in g.vertices e s) number s _ (λ x. le)
+    action_falls (SetBool slot c) n number s le = value_falls n (bool_value_in g.vertices c s) number s _ (λ b. le)
+    action_falls (ReduceInt slot reduction e) n number s le = value_falls n (int_value_in g.vertices e s) number s _ (λ x. le)
     action_falls (SetEntry vector index e) n number s le = value_falls n (vertex_in g.vertices index s) number s _ (λ v. value_falls n (int_value_in g.vertices e s) number s _ (λ x. le))
     action_falls (ReduceEntry vector index reduction e) n number s le =
         value_falls n (vertex_in g.vertices index s) number s _ (λ v. value_falls n (int_value_in g.vertices e s) number s _ (λ x. le))
     action_falls (DeclareSet name value) n number s le = le
     action_falls (AssignSet slot value) n number s le = le
     action_falls (AddVertex slot e) n number s le = value_falls n (vertex_in g.vertices e s) number s _ (λ v. le)
-    action_falls (PrintInteger e) n number s le = value_falls n (int_value_in g.vertices e s) number s _ (λ x. le)
-    action_falls (PrintCondition c) n number s le = value_falls n (bool_value_in g.vertices c s) number s _ (λ b. le)
+    action_falls (PrintInt e) n number s le = value_falls n (int_value_in g.vertices e s) number s _ (λ x. le)
+    action_falls (PrintBool c) n number s le = value_falls n (bool_value_in g.vertices c s) number s _ (λ b. le)
     action_falls (ApplyVertex set function) n number s le = le
     action_falls (ApplyEdges ends function) n number s le = le
     action_falls (If c body) n number s le =
@@ -155,4 +155,4 @@ module _ (p : ProgramTree) (g : GraphValue) where
   all_used turns (Over s (Fault number statement)) is over = absurd cc
 
 pub turns_used : (p : ProgramTree) (g : GraphValue) (turns : ℕ) → (meaning p g turns).end ≡ TurnsOver → (meaning p g turns).turns ≡ turns
-turns_used p g turns over = all_used p g turns (after_all p g p.main (opening p g turns)) (block_falls p g p.main turns (opening p g turns) (le_refl turns)) over
+turns_used p g turns over = all_used p g turns (after_all p g p.main (initial_state p g turns)) (block_falls p g p.main turns (initial_state p g turns) (le_refl turns)) over

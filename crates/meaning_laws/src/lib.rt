@@ -1,4 +1,4 @@
-//! Laws of meanings: what `algorithm_meaning`, which defines the meaning of a program step by step, comes to in the words
+//! Laws of meanings: what `algorithm_meaning`, which defines the meaning of a program step by step, means in the words
 //! of the language.
 //!
 //! The calls do nothing: each is a fact that is proved of every program, graph and state. The set that `applyModified`
@@ -14,7 +14,7 @@
 //! What a run has printed are lines of numbers and of truth values (`runs_print_lines`), and each set that it shows has
 //! vertices of the graph in ascending order (`runs_show_sets_of_vertices`).
 //!
-//! No crate of the program stands on this one, so that its proofs are off the way of a build.
+//! No crate of the program depends on this one, so that its proofs are off the way of a build.
 #![tactic(auto)]
 
 mod loops;

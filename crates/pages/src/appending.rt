@@ -13,7 +13,7 @@ use crate::weights::WeightWidth;
 use crate::writing::{width_of, write, write_weights};
 use std::alloc::AllocError;
 
-/// How many bytes stand after the last list, so that each offset may be read as four bytes.
+/// How many bytes are after the last list, so that each offset may be read as four bytes.
 pub(crate) const PADDING: usize = 3;
 
 /// Adds the list of a vertex after the others. The only error is out of memory, and then all is as

@@ -23,13 +23,13 @@
 //! memory and no time for it.
 //!
 //! The layout: a word of 64 bits says which vertices are present. Each of them has an entry of 8 bytes,
-//! which stands at its rank, the number of vertices present below it: where its list starts, the index of
+//! which is at its rank, the number of vertices present below it: where its list starts, the index of
 //! its last neighbour, and how many bytes each offset and each weight takes. The lists stand one after the
 //! other in one array of bytes. A list is its first neighbour in 4 bytes, the low byte first, for each other
 //! one how far it is above the first, all in the list's own width of 1, 2, 3 or 4 bytes, and after them the
 //! weights, all in a width of 1, 2, 4 or 8 bytes; where all are 1 they take none. Weights of 1 and of 2 bytes
 //! have no sign: 7 of weight 5, 9 of 300, 300 of 1 is `07 00 00 00`, `02 00`, `25 01`, `05 00`, `2c 01`,
-//! `01 00`. Three bytes of padding stand at the end, so that each offset may be read as four bytes, of which
+//! `01 00`. Three bytes of padding are at the end, so that each offset may be read as four bytes, of which
 //! a mask cuts out its own. So reading has no branch, the neighbour and the weight at an index take constant
 //! time, a look-up is a binary search and one read, and a walk downward costs what one upward does.
 //!

@@ -249,7 +249,7 @@ impl<'a> Neighbours<'a> {
     }
 
     /// The index up to which the neighbours from another on are below a vertex, and the index from
-    /// which they are above it. Where the vertex is among them, it stands at the first index.
+    /// which they are above it. Where the vertex is among them, it is at the first index.
     pub(crate) fn cut(&self, from: usize, neighbour: u32) -> (usize, usize)
         requires { from ≤ length self.now }
         ensures order { (from ≤ result.0) × (result.0 ≤ result.1) × (result.1 ≤ length self.now) }

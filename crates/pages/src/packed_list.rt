@@ -15,7 +15,7 @@ use crate::writing::{width_of, write, write_weights};
 use std::alloc::{AllocError, Global};
 use std::marker::Model;
 
-/// How many neighbours a packed list has at most that stands in an array of its own.
+/// How many neighbours a packed list has at most that is in an array of its own.
 pub const MAX_LONG: usize = 2_048;
 
 /// The neighbours of one vertex, ascending, each with a weight: 1 to 2,048 ([`MAX_LONG`]). A contract

@@ -1,4 +1,4 @@
-//! Pages of the neighbours of 64 vertices: what stands in one, look-ups, and building one up.
+//! Pages of the neighbours of 64 vertices: what is in one, look-ups, and building one up.
 
 ghost use Rattle.std.specs.Prelude.{◌≡◌, ℕ, ◌+◌, ◌<◌, ◌≤◌, ◌↔◌, ◌∷◌, ◌++◌, [], length, slice_range, IfOk, OnOk, OnErr, IsTrue};
 ghost use Rattle.std.specs.Int.{bit_at};

@@ -42,7 +42,7 @@ pub fn merge(
     Ok(())
 }
 
-/// Goes on over one update, from an index of the list on, and gives the index from which to go on.
+/// Continues over one update, from an index of the list on, and gives the index from which to continue.
 fn step(
     list: &Neighbours<'_>,
     at: usize,

@@ -6,7 +6,7 @@ use Rattle.std.specs.Option.{is_some}
 use Rattle.lexer.specs.declared.keyword.Keyword.{Keyword}
 use Rattle.lexer.specs.declared.keyword.Keyword.TheVariants as keyword
 use Rattle.lexer.specs.declared.symbol.Symbol.TheVariants as symbol
-use Rattle.syntax.specs.Terminals.{Terminal, Identifier, Opening, OfKeyword, OfSymbol, keyword_terminal}
+use Rattle.syntax.specs.Terminals.{Terminal, Identifier, LeadingKeyword, OfKeyword, OfSymbol, keyword_terminal}
 use Rattle.syntax.specs.ExpressionReading.{Reader}
 use Rattle.syntax.specs.Nesting.{◌>>=◌}
 use Rattle.syntax.specs.SourceTrees.{ExpressionTree, BlockTree, StatementKindTree, While, For, If, IfElse, Then}
@@ -20,9 +20,9 @@ use Rattle.syntax.specs.inside.SourceViews.{statement_of}
 use Rattle.syntax.specs.SourceReading.{expression, name_reader, after_terminal, after_terminals, closed_by, else_by, action_by, block_by, block_at, block_from, next_statement, statement_by}
 use Rattle.syntax.specs.SourceReading.{begins_statement, where_begins}
 use Rattle.parser.proofs.Steps.{bind_bind, bind_same}
-use Rattle.parser.specs.declared.block.Opening.{Opening as Begun}
-use Rattle.parser.specs.declared.block.Opening.TheVariants as opening
-use Rattle.parser.specs.inside.Blocks.{action_at, to_end_by, otherwise_by, opening_of, opened_by}
+use Rattle.parser.specs.declared.block.StatementKeyword.{StatementKeyword as Begun}
+use Rattle.parser.specs.declared.block.StatementKeyword.TheVariants as statement_keyword
+use Rattle.parser.specs.inside.Blocks.{action_at, to_end_by, otherwise_by, statement_keyword_of, opened_by}
 
 pub rows_tree-items : {m : _} (rows : Row_of-Statement m) → rows_tree rows ≡ block_tree (items-the_row-Statement m rows)
 rows_tree-items end_of-Statement = refl
@@ -69,7 +69,7 @@ closed_is : (block : Reader BlockTree) (ws : List Terminal) (action : BlockTree 
 closed_is block ws action =
     bind_bind (block ws) _ _ _ (λ b. bind_bind (after_terminals (OfKeyword keyword.End ∷ []) b.1) _ _ _ (λ rest. refl))
 
-while_is : (block : Reader BlockTree) (at : ℕ) (ws : List Terminal) → action_by block (Opening keyword.While at ∷ ws) ≡ opened_by block opening.While at ws
+while_is : (block : Reader BlockTree) (at : ℕ) (ws : List Terminal) → action_by block (LeadingKeyword keyword.While at ∷ ws) ≡ opened_by block statement_keyword.While at ws
 while_is block at ws = bind_same (expression ws) _ _ (λ e. sym (closed_is block e.1 (While at e.0)))
 
 else_is : (block : Reader BlockTree) (at : ℕ) (test : ExpressionTree) (body : BlockTree × List Terminal) (after : Option (List Terminal))
@@ -77,12 +77,12 @@ else_is : (block : Reader BlockTree) (at : ℕ) (test : ExpressionTree) (body : 
 else_is block at test body None = refl
 else_is block at test body (Some after) = sym (closed_is block after (IfElse at test body.0))
 
-if_is : (block : Reader BlockTree) (at : ℕ) (ws : List Terminal) → action_by block (Opening keyword.If at ∷ ws) ≡ opened_by block opening.If at ws
+if_is : (block : Reader BlockTree) (at : ℕ) (ws : List Terminal) → action_by block (LeadingKeyword keyword.If at ∷ ws) ≡ opened_by block statement_keyword.If at ws
 if_is block at ws =
     bind_same (expression ws) _ _ (λ e.
     bind_same (block e.1) _ _ (λ b. else_is block at e.0 b (after_terminal (OfKeyword keyword.Else) b.1)))
 
-for_is : (block : Reader BlockTree) (at : ℕ) (ws : List Terminal) → action_by block (Opening keyword.For at ∷ ws) ≡ opened_by block opening.For at ws
+for_is : (block : Reader BlockTree) (at : ℕ) (ws : List Terminal) → action_by block (LeadingKeyword keyword.For at ∷ ws) ≡ opened_by block statement_keyword.For at ws
 for_is block at ws =
     sym (bind_bind (name_reader ws) _ _ _ (λ n.
     bind_bind (after_terminal (OfKeyword keyword.In) n.1) _ _ _ (λ a.
@@ -90,17 +90,17 @@ for_is block at ws =
     bind_bind (after_terminal (OfSymbol symbol.Colon) e.1) _ _ _ (λ c.
     bind_bind (expression c) _ _ _ (λ f. closed_is block f.1 (For at n.0 e.0 f.0)))))))
 
-same_opening : (o p : Begun) → Some o ≡ Some p → o ≡ p
-same_opening o p is = cc is
+same_statement_keyword : (o p : Begun) → Some o ≡ Some p → o ≡ p
+same_statement_keyword o p is = cc is
 
 -- what a statement does that begins with such a keyword
-pub opened_is : (block : Reader BlockTree) (terminal : Keyword) (at : ℕ) (opening : Begun) (ws : List Terminal) → opening_of terminal ≡ Some opening
-    → action_by block (keyword_terminal terminal at ∷ ws) ≡ opened_by block opening at ws
-opened_is block keyword.Var at o ws is = ap (λ o. opened_by block o at ws) (same_opening opening.Var o is)
-opened_is block keyword.While at o ws is = while_is block at ws ∙ ap (λ o. opened_by block o at ws) (same_opening opening.While o is)
-opened_is block keyword.For at o ws is = for_is block at ws ∙ ap (λ o. opened_by block o at ws) (same_opening opening.For o is)
-opened_is block keyword.If at o ws is = if_is block at ws ∙ ap (λ o. opened_by block o at ws) (same_opening opening.If o is)
-opened_is block keyword.Print at o ws is = ap (λ o. opened_by block o at ws) (same_opening opening.Print o is)
+pub opened_is : (block : Reader BlockTree) (terminal : Keyword) (at : ℕ) (statement_keyword : Begun) (ws : List Terminal) → statement_keyword_of terminal ≡ Some statement_keyword
+    → action_by block (keyword_terminal terminal at ∷ ws) ≡ opened_by block statement_keyword at ws
+opened_is block keyword.Var at o ws is = ap (λ o. opened_by block o at ws) (same_statement_keyword statement_keyword.Var o is)
+opened_is block keyword.While at o ws is = while_is block at ws ∙ ap (λ o. opened_by block o at ws) (same_statement_keyword statement_keyword.While o is)
+opened_is block keyword.For at o ws is = for_is block at ws ∙ ap (λ o. opened_by block o at ws) (same_statement_keyword statement_keyword.For o is)
+opened_is block keyword.If at o ws is = if_is block at ws ∙ ap (λ o. opened_by block o at ws) (same_statement_keyword statement_keyword.If o is)
+opened_is block keyword.Print at o ws is = ap (λ o. opened_by block o at ws) (same_statement_keyword statement_keyword.Print o is)
 opened_is block _ at o ws is = absurd (false≢true (ap is_some is))
 
 pub next_is : (depth : ℕ) (left rest : List Terminal) (s : Option Identifier × StatementKindTree) → begins_statement left ≡ true → statement_by (action_at depth) left ≡ Some (s, rest)

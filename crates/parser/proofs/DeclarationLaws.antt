@@ -5,7 +5,7 @@ use Rattle.std.specs.Option.{is_some}
 use Rattle.lexer.specs.declared.keyword.Keyword.{Keyword}
 use Rattle.lexer.specs.declared.keyword.Keyword.TheVariants as keyword
 use Rattle.lexer.specs.declared.symbol.Symbol.TheVariants as symbol
-use Rattle.syntax.specs.Terminals.{Terminal, Opening, OfSymbol, keyword_terminal}
+use Rattle.syntax.specs.Terminals.{Terminal, LeadingKeyword, OfSymbol, keyword_terminal}
 use Rattle.syntax.specs.SourceTrees.{DeclarationTree}
 use Rattle.syntax.specs.SourceReading.{name_reader, parameters_at, result_by, after_terminal, declaration_by, next_declaration, begins_declaration, where_begins}
 use Rattle.parser.specs.declared.declaration.Beginning.{Beginning}
@@ -25,7 +25,7 @@ next_fails left begins is = begins_is left true begins ∙ ap (where_begins true
 pub next_none : (left : List Terminal) → begins_declaration left ≡ false → next_declaration left ≡ None
 next_none left begins = begins_is left false begins
 
-function_is : (at : ℕ) (ws : List Terminal) → declaration_by (Opening keyword.Func at ∷ ws) ≡ function_at at ws
+function_is : (at : ℕ) (ws : List Terminal) → declaration_by (LeadingKeyword keyword.Func at ∷ ws) ≡ function_at at ws
 function_is at ws =
     sym (bind_bind (name_reader ws) _ _ _ (λ n.
     bind_bind (parameters_at n.1) _ _ _ (λ p.

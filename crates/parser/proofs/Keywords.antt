@@ -6,7 +6,7 @@ use Rattle.lexer.specs.declared.keyword.Keyword.TheVariants as keyword
 use Rattle.lexer.specs.declared.token.TokenKind.{TokenKind}
 use Rattle.lexer.specs.declared.token.TokenKind.TheVariants as kind
 use Rattle.lexer.specs.Spelling.{keyword_spelling}
-use Rattle.syntax.specs.Terminals.{Terminal, OfKeyword, Opening, keyword_terminal, terminal_of}
+use Rattle.syntax.specs.Terminals.{Terminal, OfKeyword, LeadingKeyword, keyword_terminal, terminal_of}
 use Rattle.syntax.specs.SourceReading.{same_terminal, after_terminal}
 use Rattle.syntax.proofs.TerminalLaws.{after_terminal-sound}
 
@@ -16,23 +16,23 @@ keyword-injective a b is = cc is
 first-injective : (v w : Terminal) (left rest : List Terminal) → v ∷ left ≡ w ∷ rest → v ≡ w
 first-injective v w left rest is = cc is
 
-opening_differs : {A : Type 0} (k : Keyword) (at : ℕ) (word : Keyword) → Opening k at ≡ OfKeyword word → A
-opening_differs k at word is = cc is
+leading_keyword_differs : {A : Type 0} (k : Keyword) (at : ℕ) (word : Keyword) → LeadingKeyword k at ≡ OfKeyword word → A
+leading_keyword_differs k at word is = cc is
 
 -- a keyword whose terminal opens nothing
 same_keyword : (k : Keyword) (at : ℕ) (word : Keyword) → keyword_terminal k at ≡ OfKeyword word → k ≡ word
-same_keyword keyword.Const at word is = opening_differs keyword.Const at word is
-same_keyword keyword.Func at word is = opening_differs keyword.Func at word is
-same_keyword keyword.Var at word is = opening_differs keyword.Var at word is
-same_keyword keyword.While at word is = opening_differs keyword.While at word is
-same_keyword keyword.For at word is = opening_differs keyword.For at word is
-same_keyword keyword.If at word is = opening_differs keyword.If at word is
-same_keyword keyword.Print at word is = opening_differs keyword.Print at word is
-same_keyword keyword.ConfigApplyDirection at word is = opening_differs keyword.ConfigApplyDirection at word is
-same_keyword keyword.ConfigApplyParallelization at word is = opening_differs keyword.ConfigApplyParallelization at word is
-same_keyword keyword.ConfigApplyDenseVertexSet at word is = opening_differs keyword.ConfigApplyDenseVertexSet at word is
-same_keyword keyword.FuseApplyFunctions at word is = opening_differs keyword.FuseApplyFunctions at word is
-same_keyword keyword.FuseFields at word is = opening_differs keyword.FuseFields at word is
+same_keyword keyword.Const at word is = leading_keyword_differs keyword.Const at word is
+same_keyword keyword.Func at word is = leading_keyword_differs keyword.Func at word is
+same_keyword keyword.Var at word is = leading_keyword_differs keyword.Var at word is
+same_keyword keyword.While at word is = leading_keyword_differs keyword.While at word is
+same_keyword keyword.For at word is = leading_keyword_differs keyword.For at word is
+same_keyword keyword.If at word is = leading_keyword_differs keyword.If at word is
+same_keyword keyword.Print at word is = leading_keyword_differs keyword.Print at word is
+same_keyword keyword.ConfigApplyDirection at word is = leading_keyword_differs keyword.ConfigApplyDirection at word is
+same_keyword keyword.ConfigApplyParallelization at word is = leading_keyword_differs keyword.ConfigApplyParallelization at word is
+same_keyword keyword.ConfigApplyDenseVertexSet at word is = leading_keyword_differs keyword.ConfigApplyDenseVertexSet at word is
+same_keyword keyword.FuseApplyFunctions at word is = leading_keyword_differs keyword.FuseApplyFunctions at word is
+same_keyword keyword.FuseFields at word is = leading_keyword_differs keyword.FuseFields at word is
 same_keyword k at word is = keyword-injective k word is
 
 -- the kind of a token whose terminal is a keyword

@@ -21,7 +21,7 @@ pub record IsSource (text : List ℕ) (source : SourceTree) : Type 0 where
   pub spelled : terminals_of text tokens ≡ source_terminals source
   pub only : (other : SourceTree) → terminals_of text tokens ≡ source_terminals other → other ≡ source
 
--- the offset at which tokens begin that stand at the end of a text; where there is none, it is the text's length
+-- the offset at which tokens begin that are at the end of a text; where there is none, it is the text's length
 abbrev pub beginning_of : List ℕ → List Token → ℕ
 beginning_of text [] = length text
 beginning_of text (token ∷ tokens) = token.span.start

@@ -6,7 +6,7 @@ ghost use Rattle.syntax.specs.SourceTrees.{While, For, If, IfElse};
 ghost use Rattle.syntax.specs.SourceReading.{block_at, statement_by, begins_statement as begins_statement_at, after_terminal};
 ghost use Rattle.syntax.specs.SourceViews.{statement_kind_tree, block_tree};
 ghost use Rattle.syntax.specs.inside.SourceViews.{statement_of};
-ghost use Rattle.parser.specs.inside.Blocks.{action_at, block_in, declared_at, printed_at, range_at, to_end_by, otherwise_by, opening_of, opened_by};
+ghost use Rattle.parser.specs.inside.Blocks.{action_at, block_in, declared_at, printed_at, range_at, to_end_by, otherwise_by, statement_keyword_of, opened_by};
 ghost use Rattle.parser.specs.inside.Views.{statements_tree};
 
 use crate::cursor::Cursor;
@@ -20,7 +20,7 @@ use syntax::{Action, Expression, Name, Statement};
 
 /// What a statement begins with that begins with a keyword.
 #[derive(Clone, Copy)]
-pub(crate) enum Opening {
+pub(crate) enum StatementKeyword {
     Var,
     While,
     For,
@@ -29,7 +29,7 @@ pub(crate) enum Opening {
 }
 
 /// The statements at the front, as many as follow one another, and the place after them. `depth` is how
-/// many blocks may stand in each other in these. No call goes deeper than `depth` blocks.
+/// many blocks may be nested in these. No call goes deeper than `depth` blocks.
 #[cycle(read)]
 pub(crate) fn block(
     alloc: Global,
@@ -64,15 +64,15 @@ fn begins_statement(cursor: Cursor<'_>) -> bool
 }
 
 /// What begins with a keyword.
-fn begun_by(keyword: Keyword) -> Option<Opening>
-    ensures { result ≡ opening_of keyword }
+fn begun_by(keyword: Keyword) -> Option<StatementKeyword>
+    ensures { result ≡ statement_keyword_of keyword }
 {
     match keyword {
-        Keyword::Var => Some(Opening::Var),
-        Keyword::While => Some(Opening::While),
-        Keyword::For => Some(Opening::For),
-        Keyword::If => Some(Opening::If),
-        Keyword::Print => Some(Opening::Print),
+        Keyword::Var => Some(StatementKeyword::Var),
+        Keyword::While => Some(StatementKeyword::While),
+        Keyword::For => Some(StatementKeyword::For),
+        Keyword::If => Some(StatementKeyword::If),
+        Keyword::Print => Some(StatementKeyword::Print),
         _ => None,
     }
 }
@@ -112,35 +112,35 @@ fn action(
             named(alloc, name, after)
         }
         TokenKind::Keyword(keyword) => match begun_by(keyword) {
-            Some(opening) => opened(alloc, opening, at, after, depth),
+            Some(statement_keyword) => opened(alloc, statement_keyword, at, after, depth),
             None => Err(cursor.unexpected()),
         },
         _ => Err(cursor.unexpected()),
     }
 }
 
-/// What stands after the keyword at this offset with which a statement begins.
+/// What is after the keyword at this offset with which a statement begins.
 #[cycle(read)]
 fn opened(
     alloc: Global,
-    opening: Opening,
+    statement_keyword: StatementKeyword,
     at: usize,
     cursor: Cursor<'_>,
     depth: u32,
 ) -> Result<(Action, Cursor<'_>), SyntaxError>
-    ensures reads { Gives statement_kind_tree result (opened_by (block_in depth) opening at (terminals cursor.entry)) }
+    ensures reads { Gives statement_kind_tree result (opened_by (block_in depth) statement_keyword at (terminals cursor.entry)) }
     ensures shorter { IfOk result (λ x. length (terminals x.1) ≤ length (terminals cursor.entry)) }
 {
-    match opening {
-        Opening::Var => declared(alloc, at, cursor),
-        Opening::While => while_loop(alloc, at, cursor, depth),
-        Opening::For => for_loop(alloc, at, cursor, depth),
-        Opening::If => choice(alloc, at, cursor, depth),
-        Opening::Print => printed(alloc, at, cursor),
+    match statement_keyword {
+        StatementKeyword::Var => declared(alloc, at, cursor),
+        StatementKeyword::While => while_loop(alloc, at, cursor, depth),
+        StatementKeyword::For => for_loop(alloc, at, cursor, depth),
+        StatementKeyword::If => choice(alloc, at, cursor, depth),
+        StatementKeyword::Print => printed(alloc, at, cursor),
     }
 }
 
-/// What stands after `var`.
+/// What is after `var`.
 fn declared(
     alloc: Global,
     at: usize,
@@ -159,7 +159,7 @@ fn declared(
     Ok((action, behind))
 }
 
-/// What stands after `print`.
+/// What is after `print`.
 fn printed(
     alloc: Global,
     at: usize,
@@ -172,7 +172,7 @@ fn printed(
     Ok((Action::Print { at, value }, behind))
 }
 
-/// What stands after `while`.
+/// What is after `while`.
 #[cycle(read)]
 fn while_loop(
     alloc: Global,
@@ -180,7 +180,7 @@ fn while_loop(
     cursor: Cursor<'_>,
     depth: u32,
 ) -> Result<(Action, Cursor<'_>), SyntaxError>
-    ensures reads { Gives statement_kind_tree result (opened_by (block_in depth) Opening.While at (terminals cursor.entry)) }
+    ensures reads { Gives statement_kind_tree result (opened_by (block_in depth) StatementKeyword.While at (terminals cursor.entry)) }
     ensures shorter { IfOk result (λ x. length (terminals x.1) ≤ length (terminals cursor.entry)) }
 {
     let (test, rest) = cursor.expression(alloc)?;
@@ -194,7 +194,7 @@ fn while_action(at: usize, test: Expression, body: Vec<Statement>) -> Action
     Action::While { at, test, body }
 }
 
-/// What stands after `for`.
+/// What is after `for`.
 #[cycle(read)]
 fn for_loop(
     alloc: Global,
@@ -202,7 +202,7 @@ fn for_loop(
     cursor: Cursor<'_>,
     depth: u32,
 ) -> Result<(Action, Cursor<'_>), SyntaxError>
-    ensures reads { Gives statement_kind_tree result (opened_by (block_in depth) Opening.For at (terminals cursor.entry)) }
+    ensures reads { Gives statement_kind_tree result (opened_by (block_in depth) StatementKeyword.For at (terminals cursor.entry)) }
     ensures shorter { IfOk result (λ x. length (terminals x.1) ≤ length (terminals cursor.entry)) }
 {
     let ((name, first, limit), rest) = range(alloc, cursor)?;
@@ -244,7 +244,7 @@ fn for_action(
     }
 }
 
-/// What stands after `if`.
+/// What is after `if`.
 #[cycle(read)]
 fn choice(
     alloc: Global,
@@ -252,7 +252,7 @@ fn choice(
     cursor: Cursor<'_>,
     depth: u32,
 ) -> Result<(Action, Cursor<'_>), SyntaxError>
-    ensures reads { Gives statement_kind_tree result (opened_by (block_in depth) Opening.If at (terminals cursor.entry)) }
+    ensures reads { Gives statement_kind_tree result (opened_by (block_in depth) StatementKeyword.If at (terminals cursor.entry)) }
     ensures shorter { IfOk result (λ x. length (terminals x.1) ≤ length (terminals cursor.entry)) }
 {
     let (test, rest) = cursor.expression(alloc)?;
@@ -260,7 +260,7 @@ fn choice(
     otherwise(alloc, at, test, body, left, depth)
 }
 
-/// What stands after the body of an `if`.
+/// What is after the body of an `if`.
 #[cycle(read)]
 fn otherwise(
     alloc: Global,
@@ -324,7 +324,7 @@ fn to_end(
     Ok((body, behind))
 }
 
-/// A block in a statement, where one more may stand in the others.
+/// A block in a statement, where one more may be in the others.
 #[cycle(read)]
 fn inner(
     alloc: Global,

@@ -81,7 +81,7 @@ fn declaration(alloc: Global, cursor: Cursor<'_>) -> Result<(Declaration, Cursor
     }
 }
 
-/// What stands after the keyword at this offset with which a declaration begins.
+/// What is after the keyword at this offset with which a declaration begins.
 fn begun(
     alloc: Global,
     beginning: Beginning,
@@ -97,7 +97,7 @@ fn begun(
     }
 }
 
-/// What stands after `const`.
+/// What is after `const`.
 fn constant(
     alloc: Global,
     at: usize,
@@ -116,7 +116,7 @@ fn constant(
     Ok((declaration, behind))
 }
 
-/// What stands after `func`.
+/// What is after `func`.
 fn function(
     alloc: Global,
     at: usize,
@@ -152,7 +152,7 @@ fn signature(
     Ok(((name, parameters, result), behind))
 }
 
-/// The statements of a function. Within them no more stands in each other than may be open at once.
+/// The statements of a function. Within them no more is nested than may be open at once.
 fn body(alloc: Global, cursor: Cursor<'_>) -> Result<(Vec<Statement>, Cursor<'_>), SyntaxError>
     ensures reads { Gives statements_tree result (block_at_limit (terminals cursor.entry)) }
     ensures shorter { IfOk result (λ x. length (terminals x.1) ≤ length (terminals cursor.entry)) }

@@ -14,13 +14,13 @@ use std::alloc::Global;
 use syntax::{Comparison, Conjunction, Expression, Name, Primary, Sum, Term, Unary};
 
 /// The expression at the front of the tokens, as long as it goes, and the place after it: the first
-/// token there is no operator that goes on with it, and no bracket or dot after a name.
+/// token there is no operator that continues with it, and no bracket or dot after a name.
 ///
-/// `depth` is how many parentheses and brackets may stand in each other.
+/// `depth` is how many parentheses and brackets may be nested.
 ///
 /// The error is `Unexpected` where the tokens begin with no such expression, at the first token after
 /// which none could, at the length of the text where they end too early, or after the opening
-/// parenthesis or bracket that is deeper than `depth`; and `NoMemory` where memory runs out. The time is
+/// parenthesis or bracket that is deeper than `depth`; and `NoMemory` if memory runs out. The time is
 /// in proportion to the tokens read; each name is copied once.
 pub(crate) fn read_expression(
     alloc: Global,
@@ -188,7 +188,7 @@ fn literal(cursor: Cursor<'_>) -> Result<(Primary, Cursor<'_>), SyntaxError>
     }
 }
 
-/// The truth value that a keyword stands for.
+/// The truth value that a keyword means.
 fn truth_of(keyword: Keyword) -> Option<bool>
     ensures { result ≡ truth_of_terminal keyword }
 {

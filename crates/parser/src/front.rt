@@ -1,4 +1,4 @@
-//! What stands at the front of the tokens that are left.
+//! What is at the front of the tokens that are left.
 ghost use Rattle.std.specs.Prelude.{◌≡◌, ◌<◌, ◌≤◌, ℕ, ◌∷◌, [], length, map, Some, option_map, IsTrue, IfSome, IfOk};
 ghost use Rattle.std.specs.List.{list_all};
 ghost use Rattle.syntax.specs.Terminals.{OfKeyword, OfSymbol, keyword_terminal};
@@ -128,7 +128,7 @@ impl<'a> Cursor<'a> {
         Ok((name, behind))
     }
 
-    /// The expression at the front, and the place after it. Within it no more stands in each other than may
+    /// The expression at the front, and the place after it. Within it no more is nested than may
     /// be open at once.
     pub(crate) fn expression(self, alloc: Global) -> Result<(Expression, Cursor<'a>), SyntaxError>
         ensures reads { Gives (λ e. e) result (expression_at_limit (terminals self.entry)) }

@@ -118,7 +118,7 @@ fn value(alloc: Global, cursor: Cursor<'_>) -> Result<(Initial, Cursor<'_>), Syn
     Ok((Initial::Value(value), behind))
 }
 
-/// What stands after `new`.
+/// What is after `new`.
 fn new_set(cursor: Cursor<'_>) -> Result<(Initial, Cursor<'_>), SyntaxError>
     ensures reads { Gives initial_tree result (new_set_at (terminals cursor.entry)) }
     ensures shorter { IfOk result (λ x. length (terminals x.1) ≤ length (terminals cursor.entry)) }
@@ -129,7 +129,7 @@ fn new_set(cursor: Cursor<'_>) -> Result<(Initial, Cursor<'_>), SyntaxError>
     Ok((Initial::NewSet(size), behind))
 }
 
-/// What stands after `load`.
+/// What is after `load`.
 fn load(cursor: Cursor<'_>) -> Result<(Initial, Cursor<'_>), SyntaxError>
     ensures reads { Gives initial_tree result (load_at (terminals cursor.entry)) }
     ensures shorter { IfOk result (λ x. length (terminals x.1) ≤ length (terminals cursor.entry)) }
@@ -140,7 +140,7 @@ fn load(cursor: Cursor<'_>) -> Result<(Initial, Cursor<'_>), SyntaxError>
     Ok((Initial::Load(argument), behind))
 }
 
-/// Whether a name stands at the front, and after it a dot and the method of an initial value that is no
+/// Whether a name is at the front, and after it a dot and the method of an initial value that is no
 /// expression.
 fn begins_call(cursor: Cursor<'_>) -> bool
     ensures { result ≡ begins_call_at (terminals cursor.entry) }
@@ -154,7 +154,7 @@ fn begins_call(cursor: Cursor<'_>) -> bool
     }
 }
 
-/// Whether a dot and the method of an initial value that is no expression stand at the front.
+/// Whether a dot and the method of an initial value that is no expression are at the front.
 fn has_method(cursor: Cursor<'_>) -> bool
     ensures { result ≡ is_called (method_at (terminals cursor.entry)) }
 {
@@ -185,7 +185,7 @@ fn is_method(keyword: Keyword) -> bool
     )
 }
 
-/// What stands after the name with which an initial value begins that is no expression.
+/// What is after the name with which an initial value begins that is no expression.
 fn call(alloc: Global, name: Name, cursor: Cursor<'_>) -> Result<(Initial, Cursor<'_>), SyntaxError>
     ensures reads { Gives initial_tree result (call_by name (terminals cursor.entry) (method_at (terminals cursor.entry))) }
     ensures shorter { IfOk result (λ x. length (terminals x.1) ≤ length (terminals cursor.entry)) }

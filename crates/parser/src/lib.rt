@@ -12,7 +12,7 @@
 //! is in the grammar is shown by tests.
 //!
 //! No reader looks further ahead than three tokens, a list is a loop, and no call goes deeper than the
-//! nesting limit. The checker of types and the schedule stand on this crate.
+//! nesting limit. The checker of types and the schedule depend on this crate.
 #![tactic(auto)]
 
 mod block;

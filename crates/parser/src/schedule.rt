@@ -46,7 +46,7 @@ fn chains(alloc: Global, cursor: Cursor<'_>) -> Result<(Vec<Chain>, Cursor<'_>),
     Ok((chains, left))
 }
 
-/// What stands after `program`.
+/// What is after `program`.
 fn chain(alloc: Global, cursor: Cursor<'_>) -> Result<(Chain, Cursor<'_>), SyntaxError>
     ensures reads { Gives chain_tree result (chain_at (terminals cursor.entry)) }
     ensures shorter { IfOk result (λ x. length (terminals x.1) ≤ length (terminals cursor.entry)) }

@@ -63,13 +63,13 @@ pub fn one_answer()
         → without_place answer ≡ without_place other }
 {}
 
-/// The law that a refusal stands in the text, or at its end. The call does nothing.
+/// The law that a refusal is in the text, or at its end. The call does nothing.
 pub fn refusals_stand_in_the_text()
     ensures { (text : List ℕ) (error : ParseError) → Parses text (Err error) → StandsIn text error }
 {}
 
 /// The law that in a source each name, each label, and each keyword that begins a declaration, a statement or a call of
-/// the schedule stands in the text. The call does nothing.
+/// the schedule is in the text. The call does nothing.
 pub fn sources_stand_in_the_text()
     ensures { (text : List ℕ) (source : SourceTree) → Parses text (Ok source) → StandWhere (λ at. at ≤ length text) (source_terminals source) }
 {}

@@ -110,7 +110,7 @@ fn entry(
     entry_value(alloc, vector, index, rest)
 }
 
-/// What stands after the index of an entry.
+/// What is after the index of an entry.
 fn entry_value(
     alloc: Global,
     vector: Name,

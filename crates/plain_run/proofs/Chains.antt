@@ -5,7 +5,7 @@ use Rattle.typed_tree.specs.declared.expression.Operand.{Operand}
 use Rattle.typed_tree.specs.declared.expression.BoolExpression.{BoolExpression}
 use Rattle.typed_tree.specs.IntExpressionTree.{IntExpressionTree, Arithmetic, negated, int_expression_tree}
 use Rattle.typed_tree.specs.inside.IntExpressionTree.{operands_tree}
-use Rattle.typed_tree.specs.BoolExpressionTree.{BoolExpressionTree, Connect, turned, bool_expression_tree}
+use Rattle.typed_tree.specs.BoolExpressionTree.{BoolExpressionTree, Connect, inverted, bool_expression_tree}
 use Rattle.typed_tree.specs.inside.BoolExpressionTree.{conditions_tree}
 use Rattle.algorithm_meaning.specs.declared.state.SetBinding.{SetBinding}
 use Rattle.algorithm_meaning.specs.Arithmetic.{negative}
@@ -23,10 +23,10 @@ pub value-operands : (vectors : List (List ℤ)) (sets : List SetBinding) (scope
 value-operands vectors sets scope left [] = refl
 value-operands vectors sets scope left (o ∷ os) = value-operands vectors sets scope (Arithmetic o.operator left (int_expression_tree o.integer)) os
 
-pub truth_turned : (vectors : List (List ℤ)) (sets : List SetBinding) (scope : ScopeValue) (turns : ℕ) (c : BoolExpressionTree)
-    → not_times turns (truth vectors sets scope c) ≡ truth vectors sets scope (turned turns c)
-truth_turned vectors sets scope zero c = refl
-truth_turned vectors sets scope (suc n) c = ap not (truth_turned vectors sets scope n c)
+pub truth_inverted : (vectors : List (List ℤ)) (sets : List SetBinding) (scope : ScopeValue) (nots : ℕ) (c : BoolExpressionTree)
+    → not_times nots (truth vectors sets scope c) ≡ truth vectors sets scope (inverted nots c)
+truth_inverted vectors sets scope zero c = refl
+truth_inverted vectors sets scope (suc n) c = ap not (truth_inverted vectors sets scope n c)
 
 pub truth-conditions : (vectors : List (List ℤ)) (sets : List SetBinding) (scope : ScopeValue) (connective : Connective) (left : BoolExpressionTree) (conditions : List BoolExpression)
     → conditions_truth vectors sets scope connective (truth vectors sets scope left) conditions ≡ truth vectors sets scope (conditions_tree connective left conditions)
@@ -38,10 +38,10 @@ pub inside_negated : (vertices : ℕ) (vectors : List (List ℤ)) (sets : List S
 inside_negated vertices vectors sets scope zero e = refl
 inside_negated vertices vectors sets scope (suc n) e = inside_negated vertices vectors sets scope n e
 
-pub inside_turned : (vertices : ℕ) (vectors : List (List ℤ)) (sets : List SetBinding) (scope : ScopeValue) (turns : ℕ) (c : BoolExpressionTree)
-    → condition_stays_inside vertices vectors sets scope c ≡ condition_stays_inside vertices vectors sets scope (turned turns c)
-inside_turned vertices vectors sets scope zero c = refl
-inside_turned vertices vectors sets scope (suc n) c = inside_turned vertices vectors sets scope n c
+pub inside_inverted : (vertices : ℕ) (vectors : List (List ℤ)) (sets : List SetBinding) (scope : ScopeValue) (nots : ℕ) (c : BoolExpressionTree)
+    → condition_stays_inside vertices vectors sets scope c ≡ condition_stays_inside vertices vectors sets scope (inverted nots c)
+inside_inverted vertices vectors sets scope zero c = refl
+inside_inverted vertices vectors sets scope (suc n) c = inside_inverted vertices vectors sets scope n c
 
 and_true : (b : Bool) → b && true ≡ b
 and_true true = refl

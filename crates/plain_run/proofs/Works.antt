@@ -1,6 +1,6 @@
 -- What functions leave alone, while what they write is collected.
 use Rattle.std.proofs.Common.{◌≡◌, ℤ, Bool, true, false, cond, List, ap, ◌∙◌, refl}
-use Rattle.typed_tree.specs.FunctionStatementTree.{FunctionStatementTree, DeclareInteger, DeclareCondition, SetInteger, SetCondition, ReduceInteger, SetEntry, ReduceEntry, If, IfElse}
+use Rattle.typed_tree.specs.FunctionStatementTree.{FunctionStatementTree, DeclareInt, DeclareBool, SetInt, SetBool, ReduceInt, SetEntry, ReduceEntry, If, IfElse}
 use Rattle.typed_tree.specs.FunctionStatementTree.{FunctionStatementsTree, NoStep, StepThen}
 use Rattle.typed_tree.specs.BoolExpressionTree.{BoolExpressionTree}
 use Rattle.algorithm_meaning.specs.declared.contribution.Writing.{Writing}
@@ -16,11 +16,11 @@ either false x y vectors h k = k
 mutual
   -- the vectors stay
   pub collected_step : (sets : List SetBinding) (step : FunctionStatementTree) (w : WorkValue) → (after_step Collected sets step w).vectors ≡ w.vectors
-  collected_step sets (DeclareInteger name e) w = refl
-  collected_step sets (DeclareCondition name c) w = refl
-  collected_step sets (SetInteger slot e) w = refl
-  collected_step sets (SetCondition slot c) w = refl
-  collected_step sets (ReduceInteger slot reduction e) w = refl
+  collected_step sets (DeclareInt name e) w = refl
+  collected_step sets (DeclareBool name c) w = refl
+  collected_step sets (SetInt slot e) w = refl
+  collected_step sets (SetBool slot c) w = refl
+  collected_step sets (ReduceInt slot reduction e) w = refl
   collected_step sets (SetEntry vector e) w = refl
   collected_step sets (ReduceEntry vector reduction e) w = refl
   collected_step sets (If c body) w =

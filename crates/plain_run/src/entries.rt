@@ -1,6 +1,6 @@
 //! Entries of vectors, and the statements of `main` that write one.
 //!
-//! Each is told its statement's number and the number of vertices, and answers how the run ended if it
+//! Each is called with its statement's number and the number of vertices, and answers how the run ended if it
 //! did, and then it has changed nothing.
 ghost use Rattle.std.specs.Prelude.{◌≡◌, IfOk};
 ghost use Rattle.typed_tree.specs.IntExpressionTree.{int_expression_tree};

@@ -15,7 +15,7 @@ use crate::state::Environment;
 use algorithm_meaning::{SetBinding, arithmetic_of, compare, connect, negate};
 use typed_tree::{BoolExpression, Connective, Endpoint, IntExpression, Operand, Sequence};
 
-/// The number that an expression comes to.
+/// The value of an expression.
 #[derive(Clone, Copy, Debug)]
 struct Total {
     number: i64,
@@ -94,7 +94,7 @@ fn negated(total: Total) -> Total
     }
 }
 
-/// What the operators in a list come to, after what stands on the left.
+/// The value of the operators in a list, after what is on the left.
 #[cycle(totals)]
 fn before_operands(
     operands: &[Operand],
@@ -123,7 +123,7 @@ fn combined(operand: &Operand, left: Total, right: Total) -> Total
 
 /// The value of an expression of type `bool`.
 #[cycle(truths)]
-#[tactic(auto, using(crate::proofs::Chains::truth_turned))]
+#[tactic(auto, using(crate::proofs::Chains::truth_inverted))]
 pub(crate) fn holds(
     c: &BoolExpression,
     vectors: &[Sequence<i64>],
@@ -136,7 +136,7 @@ pub(crate) fn holds(
         BoolExpression::Literal(b) => *b,
         BoolExpression::Constant(_, b) => *b,
         BoolExpression::Variable(slot) => condition_at(scope, slot.index),
-        BoolExpression::Not(turns, c) => turned(*turns, holds(c, vectors, sets, scope)),
+        BoolExpression::Not(nots, c) => inverted(*nots, holds(c, vectors, sets, scope)),
         BoolExpression::Compare(comparison, left, right) => compare(
             *comparison,
             evaluate(left, vectors, sets, scope),
@@ -149,18 +149,18 @@ pub(crate) fn holds(
     }
 }
 
-/// The truth value turned so many times.
-fn turned(turns: usize, b: bool) -> bool
-    ensures { result ≡ not_times turns b }
+/// The truth value inverted so many times.
+fn inverted(nots: usize, b: bool) -> bool
+    ensures { result ≡ not_times nots b }
 {
     let mut now = b;
-    'turns: for turn in 0..turns {
+    'nots: for done in 0..nots {
         now = !now;
     }
     now
 }
 
-/// What the conditions in a list come to, after what stands on the left.
+/// The value of the conditions in a list, after what is on the left.
 #[cycle(truths)]
 fn before_conditions(
     conditions: &[BoolExpression],
@@ -233,7 +233,7 @@ fn are_inside(
 
 /// Whether each index in the expression is a vertex.
 #[cycle(condition_insides)]
-#[tactic(auto, using(crate::proofs::Chains::inside_turned))]
+#[tactic(auto, using(crate::proofs::Chains::inside_inverted))]
 pub(crate) fn condition_is_inside(
     c: &BoolExpression,
     vertices: u32,

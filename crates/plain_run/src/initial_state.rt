@@ -3,7 +3,7 @@ ghost use Rattle.std.specs.Prelude.{◌≡◌, pos, map, replicate, IfOk};
 ghost use Rattle.std.specs.List.{range_with_len};
 ghost use Rattle.typed_tree.specs.ProgramTree.{program_tree};
 ghost use Rattle.plain_run.specs.inside.Degrees.{counted, counted_once};
-ghost use Rattle.algorithm_meaning.specs.Meaning.{full_set, opening, opening_entries};
+ghost use Rattle.algorithm_meaning.specs.Meaning.{full_set, initial_state, initial_entries};
 ghost use Rattle.plain_run.specs.inside.Seen.{graph_of, state_of};
 
 use crate::state::{EdgeList, Environment, InterpreterState};
@@ -19,7 +19,7 @@ pub(crate) fn open(
     graph: &EdgeList,
     turns: u64,
 ) -> Result<InterpreterState, AllocError>
-    ensures { IfOk result (λ s. state_of s ≡ opening (program_tree program.now) (graph_of graph.now) turns) }
+    ensures { IfOk result (λ s. state_of s ≡ initial_state (program_tree program.now) (graph_of graph.now) turns) }
 {
     Ok(InterpreterState {
         vectors: open_vectors(alloc, &program.vectors, graph)?,
@@ -41,7 +41,7 @@ fn open_vectors(
     vectors: &[Vector],
     graph: &EdgeList,
 ) -> Result<Vec<Sequence<i64>>, AllocError>
-    ensures { IfOk result (λ v. v.items ≡ map (λ v. opening_entries (graph_of graph.now) v.beginning) vectors.now) }
+    ensures { IfOk result (λ v. v.items ≡ map (λ v. initial_entries (graph_of graph.now) v.beginning) vectors.now) }
 {
     let mut opened = Vec::new(alloc);
     'vectors: for vector in vectors {
@@ -55,7 +55,7 @@ fn open_vector(
     beginning: InitialValue,
     graph: &EdgeList,
 ) -> Result<Sequence<i64>, AllocError>
-    ensures { IfOk result (λ v. v ≡ opening_entries (graph_of graph.now) beginning) }
+    ensures { IfOk result (λ v. v ≡ initial_entries (graph_of graph.now) beginning) }
 {
     match beginning {
         InitialValue::Number(n) => {

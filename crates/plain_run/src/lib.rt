@@ -3,7 +3,7 @@
 //! [`plain_run`] goes over the trees of a checked program, on a list of edges, and gives the meaning, whole: what the definitions of
 //! `algorithm_meaning` say, in the order in which they say it. Runs of plans are compared with it.
 //!
-//! Tests and benchmark programs stand on it; no run of the product does.
+//! Tests and benchmark programs depend on it; no run of the product does.
 #![tactic(auto)]
 
 mod edge_apply;

@@ -11,7 +11,7 @@ use std::alloc::{AllocError, Global};
 use typed_tree::{Name, Sequence, Typed, Vector};
 
 /// What is shown of a state in which the run ended, when the bound of turns was `turns`. No end means
-/// that it came to the end of `main`.
+/// that it reached the end of `main`.
 pub(crate) fn show(
     alloc: Global,
     program: &Typed,

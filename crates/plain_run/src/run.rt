@@ -14,13 +14,11 @@ use crate::edge_apply::apply_edges;
 use crate::entries::{reduce_entry, set_entry_in};
 use crate::initial_state::open;
 use crate::outcome::show;
-use crate::print::{print_condition_in, print_integer_in};
+use crate::print::{print_bool_in, print_int_in};
 use crate::sets::{add_vertex, assign_set, declare_set};
 use crate::state::{EdgeList, InterpreterState, RunInput, StatementContext};
 use crate::values::{counter_of, decide, depth, fault, forget, go_on, is_below, push_counter};
-use crate::variables::{
-    declare_condition, declare_integer, reduce_integer, set_condition, set_integer,
-};
+use crate::variables::{declare_bool, declare_int, reduce_int, set_bool, set_int};
 use crate::vertex_apply::apply_vertex;
 use algorithm_meaning::{End, LoopCounter, Outcome};
 use std::alloc::{AllocError, Global};
@@ -124,11 +122,11 @@ fn run_without_block(
         vertices: input.graph.vertices,
     };
     match action {
-        StatementKind::DeclareInteger(_, e) => declare_integer(e, context, state),
-        StatementKind::DeclareCondition(_, c) => declare_condition(c, context, state),
-        StatementKind::SetInteger(slot, e) => Ok(set_integer(slot.index, e, context, state)),
-        StatementKind::SetCondition(slot, c) => Ok(set_condition(slot.index, c, context, state)),
-        StatementKind::ReduceInteger(slot, reduction, e) => Ok(reduce_integer(
+        StatementKind::DeclareInt(_, e) => declare_int(e, context, state),
+        StatementKind::DeclareBool(_, c) => declare_bool(c, context, state),
+        StatementKind::SetInt(slot, e) => Ok(set_int(slot.index, e, context, state)),
+        StatementKind::SetBool(slot, c) => Ok(set_bool(slot.index, c, context, state)),
+        StatementKind::ReduceInt(slot, reduction, e) => Ok(reduce_int(
             slot.index, *reduction, e, context, state,
         )),
         StatementKind::SetEntry(vector, subscript, e) => {
@@ -138,8 +136,8 @@ fn run_without_block(
             *vector, subscript, *reduction, e, context, state,
         )),
         StatementKind::AddVertex(slot, e) => add_vertex(alloc, slot.index, e, context, state),
-        StatementKind::PrintInteger(e) => print_integer_in(e, context, state),
-        StatementKind::PrintCondition(c) => print_condition_in(c, context, state),
+        StatementKind::PrintInt(e) => print_int_in(e, context, state),
+        StatementKind::PrintBool(c) => print_bool_in(c, context, state),
         StatementKind::DeclareSet(_, _)
         | StatementKind::AssignSet(_, _)
         | StatementKind::ApplyVertex(_, _)
@@ -202,7 +200,7 @@ fn apply_in(
     Ok(())
 }
 
-/// Runs a block and, where the run goes on, forgets what became visible in it.
+/// Runs a block and, where the run continues, forgets what became visible in it.
 #[cycle(run)]
 fn run_inside(
     alloc: Global,

@@ -16,7 +16,7 @@ pub(crate) struct RunInput<'a> {
     pub(crate) graph: &'a EdgeList<'a>,
 }
 
-/// What a statement of `main` is told: its number, and how many vertices the graph has.
+/// What a statement of `main` is called with: its number, and how many vertices the graph has.
 #[derive(Clone, Copy)]
 pub(crate) struct StatementContext {
     pub(crate) number: u64,

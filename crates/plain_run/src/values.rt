@@ -80,7 +80,7 @@ pub(crate) fn is_below(counter: &LoopCounter) -> bool
     counter.next < counter.end
 }
 
-/// Goes on to the next value.
+/// Continues to the next value.
 pub(crate) fn go_on(counter: &mut LoopCounter)
     ensures { counter.new ≡ next_of counter.old }
 {

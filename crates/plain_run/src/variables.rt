@@ -1,12 +1,12 @@
 //! Variables, in functions and in `main`, and the statements of `main` on them.
 //!
-//! Each is told its statement's number and the number of vertices, and answers how the run ended if it
+//! Each is called with its statement's number and the number of vertices, and answers how the run ended if it
 //! did, and then it has changed nothing.
 ghost use Rattle.std.specs.Prelude.{◌≡◌, IfOk, slice_set};
 ghost use Rattle.typed_tree.specs.IntExpressionTree.{int_expression_tree};
 ghost use Rattle.typed_tree.specs.BoolExpressionTree.{bool_expression_tree};
 ghost use Rattle.plain_run.specs.inside.Seen.{stand, state_of};
-ghost use Rattle.algorithm_meaning.specs.Statements.{after_declare_condition, after_declare_integer, after_reduce_integer, after_set_condition, after_set_integer};
+ghost use Rattle.algorithm_meaning.specs.Statements.{after_declare_bool, after_declare_int, after_reduce_int, after_set_bool, after_set_int};
 
 use crate::evaluate::integer_at;
 use crate::state::{InterpreterState, StatementContext};
@@ -16,13 +16,13 @@ use apply_options::Reduction;
 use std::alloc::AllocError;
 use typed_tree::{BoolExpression, IntExpression};
 
-pub(crate) fn declare_integer(
+pub(crate) fn declare_int(
     e: &IntExpression,
     context: StatementContext,
     state: &mut InterpreterState,
 ) -> Result<Option<End>, AllocError>
     ensures meaning { IfOk result (λ end. stand end (state_of state.new)
-        ≡ after_declare_integer context.vertices context.number (int_expression_tree e.now) (state_of state.old)) }
+        ≡ after_declare_int context.vertices context.number (int_expression_tree e.now) (state_of state.old)) }
     ensures turns { state.new.turns ≡ state.old.turns }
 {
     let Some(value) = number_of(e, context.vertices, state) else {
@@ -32,13 +32,13 @@ pub(crate) fn declare_integer(
     Ok(None)
 }
 
-pub(crate) fn declare_condition(
+pub(crate) fn declare_bool(
     c: &BoolExpression,
     context: StatementContext,
     state: &mut InterpreterState,
 ) -> Result<Option<End>, AllocError>
     ensures meaning { IfOk result (λ end. stand end (state_of state.new)
-        ≡ after_declare_condition context.vertices context.number (bool_expression_tree c.now) (state_of state.old)) }
+        ≡ after_declare_bool context.vertices context.number (bool_expression_tree c.now) (state_of state.old)) }
     ensures turns { state.new.turns ≡ state.old.turns }
 {
     let Some(value) = decide(c, context.vertices, state) else {
@@ -48,14 +48,14 @@ pub(crate) fn declare_condition(
     Ok(None)
 }
 
-pub(crate) fn set_integer(
+pub(crate) fn set_int(
     index: usize,
     e: &IntExpression,
     context: StatementContext,
     state: &mut InterpreterState,
 ) -> Option<End>
     ensures meaning { stand result (state_of state.new)
-        ≡ after_set_integer context.vertices context.number index (int_expression_tree e.now) (state_of state.old) }
+        ≡ after_set_int context.vertices context.number index (int_expression_tree e.now) (state_of state.old) }
     ensures turns { state.new.turns ≡ state.old.turns }
 {
     let Some(value) = number_of(e, context.vertices, state) else {
@@ -65,14 +65,14 @@ pub(crate) fn set_integer(
     None
 }
 
-pub(crate) fn set_condition(
+pub(crate) fn set_bool(
     index: usize,
     c: &BoolExpression,
     context: StatementContext,
     state: &mut InterpreterState,
 ) -> Option<End>
     ensures meaning { stand result (state_of state.new)
-        ≡ after_set_condition context.vertices context.number index (bool_expression_tree c.now) (state_of state.old) }
+        ≡ after_set_bool context.vertices context.number index (bool_expression_tree c.now) (state_of state.old) }
     ensures turns { state.new.turns ≡ state.old.turns }
 {
     let Some(value) = decide(c, context.vertices, state) else {
@@ -82,7 +82,7 @@ pub(crate) fn set_condition(
     None
 }
 
-pub(crate) fn reduce_integer(
+pub(crate) fn reduce_int(
     index: usize,
     reduction: Reduction,
     e: &IntExpression,
@@ -90,7 +90,7 @@ pub(crate) fn reduce_integer(
     state: &mut InterpreterState,
 ) -> Option<End>
     ensures meaning { stand result (state_of state.new)
-        ≡ after_reduce_integer context.vertices context.number index reduction (int_expression_tree e.now) (state_of state.old) }
+        ≡ after_reduce_int context.vertices context.number index reduction (int_expression_tree e.now) (state_of state.old) }
     ensures turns { state.new.turns ≡ state.old.turns }
 {
     let Some(given) = number_of(e, context.vertices, state) else {

@@ -1,6 +1,6 @@
 -- The loops around the instructions of a plan.
 use Rattle.std.proofs.Common.{◌≡◌, ℕ, zero, suc, ◌+◌, ◌≤◌, Bool, true, false, List, [], ◌∷◌, ◌++◌, length, if◌then◌else◌, Option, Some, None, slice_get, refl, arith, subst}
-use Rattle.typed_tree.specs.BlockTree.{StatementKindTree, DeclareInteger, DeclareCondition, DeclareSet, BlockTree, Empty, Then}
+use Rattle.typed_tree.specs.BlockTree.{StatementKindTree, DeclareInt, DeclareBool, DeclareSet, BlockTree, Empty, Then}
 use Rattle.typed_tree.specs.ProgramTree.{ProgramTree}
 use Rattle.apply_options.specs.ScheduleTree.{ScheduleTree, apply_schedule_at}
 use Rattle.algorithm_meaning.specs.declared.state.Depth.{Depth}
@@ -124,14 +124,14 @@ FitsCompany (WithNext operation) a rest = IsForTwo operation × DeclaresNone a �
 FitsCompany WithPrevious a rest = DeclaresNone a
 
 edge_declares_none : (a : StatementKindTree) (x : EdgeApplyTree) → edge_apply_of a ≡ Some x → DeclaresNone a
-edge_declares_none (DeclareInteger name e) x is = let bad : None ≡ Some x = is in cc
-edge_declares_none (DeclareCondition name e) x is = λ d. refl
+edge_declares_none (DeclareInt name e) x is = let bad : None ≡ Some x = is in cc
+edge_declares_none (DeclareBool name e) x is = λ d. refl
 edge_declares_none (DeclareSet name value) x is = λ d. refl
 edge_declares_none _ x is = λ d. refl
 
 vertex_declares_none : (a : StatementKindTree) (x : VertexApplyTree) → vertex_apply_of a ≡ Some x → DeclaresNone a
-vertex_declares_none (DeclareInteger name e) x is = let bad : None ≡ Some x = is in cc
-vertex_declares_none (DeclareCondition name e) x is = λ d. refl
+vertex_declares_none (DeclareInt name e) x is = let bad : None ≡ Some x = is in cc
+vertex_declares_none (DeclareBool name e) x is = λ d. refl
 vertex_declares_none (DeclareSet name value) x is = λ d. refl
 vertex_declares_none _ x is = λ d. refl
 

@@ -2,8 +2,8 @@
 use Rattle.std.proofs.Common.{◌≡◌, ℕ, ◌+◌, ◌<◌, ◌≤◌, append_assoc, Bool, false, List, [], ◌∷◌, ◌++◌, length, length-append, Option, Some, slice_get, refl, ap, sym, ◌∙◌, arith, subst}
 use Rattle.std.proofs.Math.Seq.{get_or-append_seam}
 use Rattle.std.proofs.lemmas.Option.{slice_get-get_or}
-use Rattle.typed_tree.specs.BlockTree.{StatementKindTree, DeclareInteger, DeclareCondition, SetInteger, SetCondition, ReduceInteger, SetEntry, ReduceEntry, DeclareSet, AssignSet, AddVertex}
-use Rattle.typed_tree.specs.BlockTree.{PrintInteger, PrintCondition, ApplyVertex, ApplyEdges, If, IfElse, While, For, BlockTree, Empty, Then}
+use Rattle.typed_tree.specs.BlockTree.{StatementKindTree, DeclareInt, DeclareBool, SetInt, SetBool, ReduceInt, SetEntry, ReduceEntry, DeclareSet, AssignSet, AddVertex}
+use Rattle.typed_tree.specs.BlockTree.{PrintInt, PrintBool, ApplyVertex, ApplyEdges, If, IfElse, While, For, BlockTree, Empty, Then}
 use Rattle.typed_tree.specs.ProgramTree.{ProgramTree}
 use Rattle.apply_options.specs.ScheduleTree.{ScheduleTree}
 use Rattle.algorithm_meaning.specs.declared.state.Depth.{Depth}
@@ -23,7 +23,7 @@ around_in WithPrevious is own = []
 
 -- so many integers are visible after a statement
 integers_after : (a : StatementKindTree) (d : Depth) → integers_behind a d.integers ≡ (depth_after a d).integers
-integers_after (DeclareInteger name e) d = refl
+integers_after (DeclareInt name e) d = refl
 integers_after _ d = refl
 
 module _ (p : ProgramTree) (s : ScheduleTree) where
@@ -59,18 +59,18 @@ module _ (p : ProgramTree) (s : ScheduleTree) where
     length-around (For name first end body) d is =
         let more = d.integers ∷ is in
         omega (arith, length-around_all body (depth_in_loop d) more false, length-append (around_all (depth_in_loop d) more false body) (more ∷ more ∷ []))
-    length-around (DeclareInteger name e) d is = refl
-    length-around (DeclareCondition name c) d is = refl
-    length-around (SetInteger slot e) d is = refl
-    length-around (SetCondition slot c) d is = refl
-    length-around (ReduceInteger slot reduction e) d is = refl
+    length-around (DeclareInt name e) d is = refl
+    length-around (DeclareBool name c) d is = refl
+    length-around (SetInt slot e) d is = refl
+    length-around (SetBool slot c) d is = refl
+    length-around (ReduceInt slot reduction e) d is = refl
     length-around (SetEntry vector subscript e) d is = refl
     length-around (ReduceEntry vector subscript reduction e) d is = refl
     length-around (DeclareSet name set) d is = refl
     length-around (AssignSet slot set) d is = refl
     length-around (AddVertex slot e) d is = refl
-    length-around (PrintInteger e) d is = refl
-    length-around (PrintCondition c) d is = refl
+    length-around (PrintInt e) d is = refl
+    length-around (PrintBool c) d is = refl
     length-around (ApplyVertex set function) d is = refl
     length-around (ApplyEdges ends function) d is = refl
 
@@ -90,18 +90,18 @@ module _ (p : ProgramTree) (s : ScheduleTree) where
 
     action_entry : (a : StatementKindTree) (index number : ℕ) (label : Option ℕ) (d : Depth) (is : List ℕ) → HasAt code index (plan p s index d number label a) → HasRows table index (around d is a)
         → Entry code table index is d.integers
-    action_entry (DeclareInteger name e) index number label d is at rows = first_entry index is d _ at.0 rows.0 refl
-    action_entry (DeclareCondition name c) index number label d is at rows = first_entry index is d _ at.0 rows.0 refl
-    action_entry (SetInteger slot e) index number label d is at rows = first_entry index is d _ at.0 rows.0 refl
-    action_entry (SetCondition slot c) index number label d is at rows = first_entry index is d _ at.0 rows.0 refl
-    action_entry (ReduceInteger slot reduction e) index number label d is at rows = first_entry index is d _ at.0 rows.0 refl
+    action_entry (DeclareInt name e) index number label d is at rows = first_entry index is d _ at.0 rows.0 refl
+    action_entry (DeclareBool name c) index number label d is at rows = first_entry index is d _ at.0 rows.0 refl
+    action_entry (SetInt slot e) index number label d is at rows = first_entry index is d _ at.0 rows.0 refl
+    action_entry (SetBool slot c) index number label d is at rows = first_entry index is d _ at.0 rows.0 refl
+    action_entry (ReduceInt slot reduction e) index number label d is at rows = first_entry index is d _ at.0 rows.0 refl
     action_entry (SetEntry vector subscript e) index number label d is at rows = first_entry index is d _ at.0 rows.0 refl
     action_entry (ReduceEntry vector subscript reduction e) index number label d is at rows = first_entry index is d _ at.0 rows.0 refl
     action_entry (DeclareSet name set) index number label d is at rows = first_entry index is d _ at.0 rows.0 refl
     action_entry (AssignSet slot set) index number label d is at rows = first_entry index is d _ at.0 rows.0 refl
     action_entry (AddVertex slot e) index number label d is at rows = first_entry index is d _ at.0 rows.0 refl
-    action_entry (PrintInteger e) index number label d is at rows = first_entry index is d _ at.0 rows.0 refl
-    action_entry (PrintCondition c) index number label d is at rows = first_entry index is d _ at.0 rows.0 refl
+    action_entry (PrintInt e) index number label d is at rows = first_entry index is d _ at.0 rows.0 refl
+    action_entry (PrintBool c) index number label d is at rows = first_entry index is d _ at.0 rows.0 refl
     action_entry (ApplyVertex set function) index number label d is at rows = first_entry index is d _ at.0 rows.0 refl
     action_entry (ApplyEdges ends function) index number label d is at rows = first_entry index is d _ at.0 rows.0 refl
     action_entry (If c body) index number label d is at rows = first_entry index is d _ at.0 rows.0 refl
@@ -167,18 +167,18 @@ module _ (p : ProgramTree) (s : ScheduleTree) where
       action_local : (a : StatementKindTree) (index number : ℕ) (label : Option ℕ) (d : Depth) (is : List ℕ) → HasAt code index (plan p s index d number label a) → HasRows table index (around d is a)
           → Entry code table (index + size p s d a) is (depth_after a d).integers → AreBelow is d.integers → KeepsInside d.integers is a
           → AllLocal code table index (plan p s index d number label a) (around d is a)
-      action_local (DeclareInteger name e) index number label d is at rows end below keeps = ((tt, keeps, end, below), tt)
-      action_local (DeclareCondition name c) index number label d is at rows end below keeps = ((tt, keeps, end, below), tt)
-      action_local (SetInteger slot e) index number label d is at rows end below keeps = ((tt, keeps, end, below), tt)
-      action_local (SetCondition slot c) index number label d is at rows end below keeps = ((tt, keeps, end, below), tt)
-      action_local (ReduceInteger slot reduction e) index number label d is at rows end below keeps = ((tt, keeps, end, below), tt)
+      action_local (DeclareInt name e) index number label d is at rows end below keeps = ((tt, keeps, end, below), tt)
+      action_local (DeclareBool name c) index number label d is at rows end below keeps = ((tt, keeps, end, below), tt)
+      action_local (SetInt slot e) index number label d is at rows end below keeps = ((tt, keeps, end, below), tt)
+      action_local (SetBool slot c) index number label d is at rows end below keeps = ((tt, keeps, end, below), tt)
+      action_local (ReduceInt slot reduction e) index number label d is at rows end below keeps = ((tt, keeps, end, below), tt)
       action_local (SetEntry vector subscript e) index number label d is at rows end below keeps = ((tt, keeps, end, below), tt)
       action_local (ReduceEntry vector subscript reduction e) index number label d is at rows end below keeps = ((tt, keeps, end, below), tt)
       action_local (DeclareSet name set) index number label d is at rows end below keeps = ((tt, keeps, end, below), tt)
       action_local (AssignSet slot set) index number label d is at rows end below keeps = ((tt, keeps, end, below), tt)
       action_local (AddVertex slot e) index number label d is at rows end below keeps = ((tt, keeps, end, below), tt)
-      action_local (PrintInteger e) index number label d is at rows end below keeps = ((tt, keeps, end, below), tt)
-      action_local (PrintCondition c) index number label d is at rows end below keeps = ((tt, keeps, end, below), tt)
+      action_local (PrintInt e) index number label d is at rows end below keeps = ((tt, keeps, end, below), tt)
+      action_local (PrintBool c) index number label d is at rows end below keeps = ((tt, keeps, end, below), tt)
       action_local (ApplyVertex set function) index number label d is at rows end below keeps = ((tt, keeps, end, below), tt)
       action_local (ApplyEdges ends function) index number label d is at rows end below keeps = ((tt, keeps, end, below), tt)
       action_local (If c body) index number label d is at rows end below keeps =

@@ -2,8 +2,8 @@
 use Rattle.std.proofs.Common.{◌≡◌, ◌≢◌, ℕ, zero, suc, ◌+◌, ◌≤◌, ◌<◌, ℤ, pos, Bool, true, false, List, [], ◌∷◌, ◌++◌, length, length-append, take, Option, Some, None, slice_get, slice_set}
 use Rattle.std.proofs.Common.{slice_index_or, int_lt, if◌then◌else◌, MatchOption, refl, ap, sym, ◌∙◌, arith, subst}
 use Rattle.std.proofs.lemmas.List.{length-take-le, length-set}
-use Rattle.typed_tree.specs.BlockTree.{StatementKindTree, DeclareInteger, DeclareCondition, SetInteger, SetCondition, ReduceInteger, SetEntry, ReduceEntry, DeclareSet, AssignSet, AddVertex}
-use Rattle.typed_tree.specs.BlockTree.{PrintInteger, PrintCondition, ApplyVertex, ApplyEdges, If, IfElse, While, For}
+use Rattle.typed_tree.specs.BlockTree.{StatementKindTree, DeclareInt, DeclareBool, SetInt, SetBool, ReduceInt, SetEntry, ReduceEntry, DeclareSet, AssignSet, AddVertex}
+use Rattle.typed_tree.specs.BlockTree.{PrintInt, PrintBool, ApplyVertex, ApplyEdges, If, IfElse, While, For}
 use Rattle.typed_tree.specs.ProgramTree.{ProgramTree}
 use Rattle.algorithm_meaning.specs.State.{GraphValue, StateValue}
 use Rattle.algorithm_meaning.specs.Arithmetic.{reduced}
@@ -90,15 +90,15 @@ module _ (p : ProgramTree) (g : GraphValue) where
   counters_after : (a : StatementKindTree) → HasNoBlock a → (d : Depth) (is : List ℕ) (rs : List LoopCounter) (number : ℕ) (s : StateValue) → KeepsInside d.integers is a
       → AreCounters is rs s.scope.integers
       → d.integers ≤ length s.scope.integers → HasCounters is rs (depth_after a d).integers (after p g number a s)
-  counters_after (DeclareInteger name e) alone d is rs number s keeps are long =
+  counters_after (DeclareInt name e) alone d is rs number s keeps are long =
       by_value (int_value_in g.vertices e s) number is rs (d.integers + 1) s _
       (λ n. (counters_joined is rs s.scope.integers (n ∷ []) are, omega (arith, long, length-append s.scope.integers (n ∷ []))))
-  counters_after (DeclareCondition name c) alone d is rs number s keeps are long = by_value (bool_value_in g.vertices c s) number is rs d.integers s _ (λ b. (are, long))
-  counters_after (SetInteger slot e) alone d is rs number s keeps are long =
+  counters_after (DeclareBool name c) alone d is rs number s keeps are long = by_value (bool_value_in g.vertices c s) number is rs d.integers s _ (λ b. (are, long))
+  counters_after (SetInt slot e) alone d is rs number s keeps are long =
       by_value (int_value_in g.vertices e s) number is rs d.integers s _
       (λ n. (counters_set is rs s.scope.integers slot.index n keeps are, omega (arith, long, length-set s.scope.integers slot.index n)))
-  counters_after (SetCondition slot c) alone d is rs number s keeps are long = by_value (bool_value_in g.vertices c s) number is rs d.integers s _ (λ b. (are, long))
-  counters_after (ReduceInteger slot reduction e) alone d is rs number s keeps are long =
+  counters_after (SetBool slot c) alone d is rs number s keeps are long = by_value (bool_value_in g.vertices c s) number is rs d.integers s _ (λ b. (are, long))
+  counters_after (ReduceInt slot reduction e) alone d is rs number s keeps are long =
       by_value (int_value_in g.vertices e s) number is rs d.integers s _
       (λ n. (let x : ℤ = reduced reduction (slice_index_or s.scope.integers slot.index (pos 0)) n in
       (counters_set is rs s.scope.integers slot.index x keeps are, omega (arith, long, length-set s.scope.integers slot.index x))))
@@ -109,8 +109,8 @@ module _ (p : ProgramTree) (g : GraphValue) where
   counters_after (DeclareSet name set) alone d is rs number s keeps are long = (are, long)
   counters_after (AssignSet slot set) alone d is rs number s keeps are long = (are, long)
   counters_after (AddVertex slot e) alone d is rs number s keeps are long = by_value (vertex_in g.vertices e s) number is rs d.integers s _ (λ v. (are, long))
-  counters_after (PrintInteger e) alone d is rs number s keeps are long = by_value (int_value_in g.vertices e s) number is rs d.integers s _ (λ n. (are, long))
-  counters_after (PrintCondition c) alone d is rs number s keeps are long = by_value (bool_value_in g.vertices c s) number is rs d.integers s _ (λ b. (are, long))
+  counters_after (PrintInt e) alone d is rs number s keeps are long = by_value (int_value_in g.vertices e s) number is rs d.integers s _ (λ n. (are, long))
+  counters_after (PrintBool c) alone d is rs number s keeps are long = by_value (bool_value_in g.vertices c s) number is rs d.integers s _ (λ b. (are, long))
   counters_after (ApplyVertex set function) alone d is rs number s keeps are long = (are, long)
   counters_after (ApplyEdges ends function) alone d is rs number s keeps are long = (are, long)
   counters_after (If c body) alone d is rs number s keeps are long = absurd alone

@@ -14,7 +14,7 @@ use Rattle.apply_options.specs.ScheduleTree.{ScheduleTree}
 use Rattle.algorithm_meaning.specs.State.{GraphValue}
 use Rattle.algorithm_meaning.specs.VertexSets.{all_below}
 use Rattle.algorithm_meaning.specs.Arithmetic.{wrapped}
-use Rattle.algorithm_meaning.specs.Meaning.{opening, opening_entries, out_degree}
+use Rattle.algorithm_meaning.specs.Meaning.{initial_state, initial_entries, out_degree}
 use Rattle.schedule.specs.Calls.{grown, grown_by, schedule_of}
 use Rattle.schedule.specs.Schedule.{index_from, vector_by_name, vector_names, empty_schedule}
 use Rattle.schedule.proofs.CallSteps.{Step, GivesValue, Fuses, PutsGroup, kept_by_calls}
@@ -77,21 +77,21 @@ groups_are_there : (p : ProgramTree) (s : ScheduleTree) → schedule_of p ≡ Ok
 groups_are_there p s e = kept_by_calls p (GroupsAreThere p) (step_keeps_groups p) p.schedule empty_schedule s tt e
 
 -- each vector begins with an entry for each vertex
-entry_count : (g : GraphValue) (b : InitialValue) → length (opening_entries g b) ≡ g.vertices
+entry_count : (g : GraphValue) (b : InitialValue) → length (initial_entries g b) ≡ g.vertices
 entry_count g (beginning.Number n) = length-replicate g.vertices n
 entry_count g beginning.OutDegrees =
     length-map (all_below g.vertices) (λ (v : ℕ). wrapped (pos (out_degree v g.edges))) ∙ length-range_with_len 0 g.vertices
 
-entries_at : (g : GraphValue) (vs : List Vector) (x : ℕ) → x < length vs → length (get_or (map (λ v. opening_entries g v.beginning) vs) x []) ≡ g.vertices
+entries_at : (g : GraphValue) (vs : List Vector) (x : ℕ) → x < length vs → length (get_or (map (λ v. initial_entries g v.beginning) vs) x []) ≡ g.vertices
 entries_at g [] x inside = absurd (omega (arith, inside))
 entries_at g (v ∷ vs) zero inside = entry_count g v.beginning
 entries_at g (v ∷ vs) (suc x) inside = let within : x < length vs = omega (arith, inside) in entries_at g vs x within
 
-pub groups_fit : (p : ProgramTree) (s : ScheduleTree) → schedule_of p ≡ Ok s → (g : GraphValue) (turns : ℕ) → IsGrouping (opening p g turns).vectors s.groups
+pub groups_fit : (p : ProgramTree) (s : ScheduleTree) → schedule_of p ≡ Ok s → (g : GraphValue) (turns : ℕ) → IsGrouping (initial_state p g turns).vectors s.groups
 groups_fit p s accepted g turns =
     let there = groups_are_there p s accepted in
     let distinct = accepted_groups_are_distinct p s accepted in
-    let count = length-map p.vectors (λ (v : Vector). opening_entries g v.beginning) in
+    let count = length-map p.vectors (λ (v : Vector). initial_entries g v.beginning) in
     let below = below_in_all (length p.vectors) s.groups there in
     record {
       known = λ a h some inside. (let l = below a h some inside in omega (arith, l, count));

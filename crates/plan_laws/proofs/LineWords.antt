@@ -199,11 +199,11 @@ word_and_brackets : (word : List ℕ) (words : List (List ℕ)) → IsBare word 
 word_and_brackets word words is are = (plain_word word is, (in_brackets words are, tt))
 
 statement_are : (p : ProgramTree) (action : StatementKindTree) (apply_schedule : ApplySchedule) → HasBareNames p → AreLineWords (statement_words p action apply_schedule)
-statement_are p (action.DeclareInteger name e) apply_schedule are = set_are (program_name_at p name) (integer_words p e) (name_is_bare p name are) (integer_bare p e are)
-statement_are p (action.DeclareCondition name c) apply_schedule are = set_are (program_name_at p name) (condition_words p c) (name_is_bare p name are) (condition_bare p c are)
-statement_are p (action.SetInteger slot e) apply_schedule are = set_are (program_name_at p slot.name) (integer_words p e) (name_is_bare p slot.name are) (integer_bare p e are)
-statement_are p (action.SetCondition slot c) apply_schedule are = set_are (program_name_at p slot.name) (condition_words p c) (name_is_bare p slot.name are) (condition_bare p c are)
-statement_are p (action.ReduceInteger slot reduction e) apply_schedule are =
+statement_are p (action.DeclareInt name e) apply_schedule are = set_are (program_name_at p name) (integer_words p e) (name_is_bare p name are) (integer_bare p e are)
+statement_are p (action.DeclareBool name c) apply_schedule are = set_are (program_name_at p name) (condition_words p c) (name_is_bare p name are) (condition_bare p c are)
+statement_are p (action.SetInt slot e) apply_schedule are = set_are (program_name_at p slot.name) (integer_words p e) (name_is_bare p slot.name are) (integer_bare p e are)
+statement_are p (action.SetBool slot c) apply_schedule are = set_are (program_name_at p slot.name) (condition_words p c) (name_is_bare p slot.name are) (condition_bare p c are)
+statement_are p (action.ReduceInt slot reduction e) apply_schedule are =
     set_are (program_name_at p slot.name) (program_name_at p slot.name ∷ integer_words p e ++ reducing_word reduction ∷ []) (name_is_bare p slot.name are)
     (name_is_bare p slot.name are, bare_and (integer_words p e) (reducing_word reduction) (integer_bare p e are) (reducing_is_bare reduction))
 statement_are p (action.SetEntry vector index e) apply_schedule are = put_are p vector index (codes "=") e are (bare (codes "=") refl)
@@ -212,8 +212,8 @@ statement_are p (action.DeclareSet name value) apply_schedule are = set_line_are
 statement_are p (action.AssignSet slot value) apply_schedule are = set_line_are p slot.name value apply_schedule are
 statement_are p (action.AddVertex slot e) apply_schedule are =
     (plain_word (codes "addvertex") (bare (codes "addvertex") refl), word_and_brackets (program_name_at p slot.name) (integer_words p e) (name_is_bare p slot.name are) (integer_bare p e are))
-statement_are p (action.PrintInteger e) apply_schedule are = word_and_brackets (codes "print") (integer_words p e) (bare (codes "print") refl) (integer_bare p e are)
-statement_are p (action.PrintCondition c) apply_schedule are = word_and_brackets (codes "print") (condition_words p c) (bare (codes "print") refl) (condition_bare p c are)
+statement_are p (action.PrintInt e) apply_schedule are = word_and_brackets (codes "print") (integer_words p e) (bare (codes "print") refl) (integer_bare p e are)
+statement_are p (action.PrintBool c) apply_schedule are = word_and_brackets (codes "print") (condition_words p c) (bare (codes "print") refl) (condition_bare p c are)
 statement_are p (action.ApplyVertex slot function) apply_schedule are = vertices_are p slot function None are
 statement_are p (action.ApplyEdges ends function) apply_schedule are = edges_are p ends (one_part function None) None apply_schedule are
 statement_are p (action.If c body) apply_schedule are = tt

@@ -42,18 +42,18 @@ set_names p name (set.Modified ends function vector) apply_schedule = refl
 
 action_names : (p : ProgramTree) (action : StatementKindTree) (apply_schedule : ApplySchedule)
     → names_of_kind (kind_of_action action) (statement_words p action apply_schedule ++ []) ≡ names_of_action p action
-action_names p (action.DeclareInteger name e) apply_schedule = refl
-action_names p (action.DeclareCondition name c) apply_schedule = refl
-action_names p (action.SetInteger slot e) apply_schedule = refl
-action_names p (action.SetCondition slot c) apply_schedule = refl
-action_names p (action.ReduceInteger slot reduction e) apply_schedule = refl
+action_names p (action.DeclareInt name e) apply_schedule = refl
+action_names p (action.DeclareBool name c) apply_schedule = refl
+action_names p (action.SetInt slot e) apply_schedule = refl
+action_names p (action.SetBool slot c) apply_schedule = refl
+action_names p (action.ReduceInt slot reduction e) apply_schedule = refl
 action_names p (action.SetEntry vector index e) apply_schedule = refl
 action_names p (action.ReduceEntry vector index reduction e) apply_schedule = refl
 action_names p (action.DeclareSet name value) apply_schedule = set_names p name value apply_schedule
 action_names p (action.AssignSet slot value) apply_schedule = set_names p slot.name value apply_schedule
 action_names p (action.AddVertex slot e) apply_schedule = refl
-action_names p (action.PrintInteger e) apply_schedule = refl
-action_names p (action.PrintCondition c) apply_schedule = refl
+action_names p (action.PrintInt e) apply_schedule = refl
+action_names p (action.PrintBool c) apply_schedule = refl
 action_names p (action.ApplyVertex slot function) apply_schedule = refl
 action_names p (action.ApplyEdges ends function) apply_schedule = refl
 action_names p (action.If c body) apply_schedule = refl
@@ -91,18 +91,18 @@ no_reduction_of_set (set.Modified ends function vector) words = refl
 
 action_reduction : (p : ProgramTree) (action : StatementKindTree) (apply_schedule : ApplySchedule)
     → reduction_after (kind_of_action action) (statement_words p action apply_schedule ++ []) ≡ reduction_of (operation.Do action)
-action_reduction p (action.DeclareInteger name e) apply_schedule = refl
-action_reduction p (action.DeclareCondition name c) apply_schedule = refl
-action_reduction p (action.SetInteger slot e) apply_schedule = refl
-action_reduction p (action.SetCondition slot c) apply_schedule = refl
-action_reduction p (action.ReduceInteger slot reduction e) apply_schedule = refl
+action_reduction p (action.DeclareInt name e) apply_schedule = refl
+action_reduction p (action.DeclareBool name c) apply_schedule = refl
+action_reduction p (action.SetInt slot e) apply_schedule = refl
+action_reduction p (action.SetBool slot c) apply_schedule = refl
+action_reduction p (action.ReduceInt slot reduction e) apply_schedule = refl
 action_reduction p (action.SetEntry vector index e) apply_schedule = refl
 action_reduction p (action.ReduceEntry vector index reduction e) apply_schedule = entry_reduction reduction
 action_reduction p (action.DeclareSet name value) apply_schedule = no_reduction_of_set value (set_instruction_words p name value apply_schedule ++ [])
 action_reduction p (action.AssignSet slot value) apply_schedule = no_reduction_of_set value (set_instruction_words p slot.name value apply_schedule ++ [])
 action_reduction p (action.AddVertex slot e) apply_schedule = refl
-action_reduction p (action.PrintInteger e) apply_schedule = refl
-action_reduction p (action.PrintCondition c) apply_schedule = refl
+action_reduction p (action.PrintInt e) apply_schedule = refl
+action_reduction p (action.PrintBool c) apply_schedule = refl
 action_reduction p (action.ApplyVertex slot function) apply_schedule = refl
 action_reduction p (action.ApplyEdges ends function) apply_schedule = refl
 action_reduction p (action.If c body) apply_schedule = refl
@@ -229,18 +229,18 @@ set_edges p name (set.Modified ends function vector) make apply_schedule none sa
 
 action_edges : (p : ProgramTree) (action : StatementKindTree) (apply_schedule : ApplySchedule) → HasNoMarks p
     → edges_behind (kind_of_action action) (statement_words p action apply_schedule ++ []) ≡ edges_of p (operation.Do action)
-action_edges p (action.DeclareInteger name e) apply_schedule none = refl
-action_edges p (action.DeclareCondition name c) apply_schedule none = refl
-action_edges p (action.SetInteger slot e) apply_schedule none = refl
-action_edges p (action.SetCondition slot c) apply_schedule none = refl
-action_edges p (action.ReduceInteger slot reduction e) apply_schedule none = refl
+action_edges p (action.DeclareInt name e) apply_schedule none = refl
+action_edges p (action.DeclareBool name c) apply_schedule none = refl
+action_edges p (action.SetInt slot e) apply_schedule none = refl
+action_edges p (action.SetBool slot c) apply_schedule none = refl
+action_edges p (action.ReduceInt slot reduction e) apply_schedule none = refl
 action_edges p (action.SetEntry vector index e) apply_schedule none = refl
 action_edges p (action.ReduceEntry vector index reduction e) apply_schedule none = refl
 action_edges p (action.DeclareSet name value) apply_schedule none = set_edges p name value (Declared name) apply_schedule none (λ vector. refl)
 action_edges p (action.AssignSet slot value) apply_schedule none = set_edges p slot.name value (Assigned slot) apply_schedule none (λ vector. refl)
 action_edges p (action.AddVertex slot e) apply_schedule none = refl
-action_edges p (action.PrintInteger e) apply_schedule none = refl
-action_edges p (action.PrintCondition c) apply_schedule none = refl
+action_edges p (action.PrintInt e) apply_schedule none = refl
+action_edges p (action.PrintBool c) apply_schedule none = refl
 action_edges p (action.ApplyVertex slot function) apply_schedule none = refl
 action_edges p (action.ApplyEdges ends function) apply_schedule none = edges_read p ends (one_part function None) None apply_schedule none
 action_edges p (action.If c body) apply_schedule none = refl

@@ -203,4 +203,4 @@ with_sites main n first second x y (Some a) (Some b) order is_a is_b one other n
 
 pub fused_stand : (p : ProgramTree) (n first second : ℕ) → InOrder n (label_indices p.main) → (well : IsFusedWell p first second) → AreFused p.main first second well.one well.other
 fused_stand p n first second order well =
-    with_sites p.main n first second well.one well.other (site_of first p.main) (site_of second p.main) order refl refl well.first_applies well.second_applies well.behind
+    with_sites p.main n first second well.one well.other (site_of first p.main) (site_of second p.main) order refl refl well.first_applies well.second_applies well.next_in_block

@@ -29,22 +29,22 @@ at_index P Q none some (f ∷ fs) zero all = some f all.0
 at_index P Q none some (f ∷ fs) (suc index) all = at_index P Q none some fs index all.1
 
 after_sets : (s : FunctionStatementTree) (v : VisibleTree) → (behind_step s v).sets ≡ v.sets
-after_sets (step.DeclareInteger name e) v = refl
-after_sets (step.DeclareCondition name c) v = refl
-after_sets (step.SetInteger slot e) v = refl
-after_sets (step.SetCondition slot c) v = refl
-after_sets (step.ReduceInteger slot by e) v = refl
+after_sets (step.DeclareInt name e) v = refl
+after_sets (step.DeclareBool name c) v = refl
+after_sets (step.SetInt slot e) v = refl
+after_sets (step.SetBool slot c) v = refl
+after_sets (step.ReduceInt slot by e) v = refl
 after_sets (step.SetEntry vector e) v = refl
 after_sets (step.ReduceEntry vector by e) v = refl
 after_sets (step.If c body) v = refl
 after_sets (step.IfElse c body other) v = refl
 
 after_indexes : (s : FunctionStatementTree) (v : VisibleTree) → (behind_step s v).indexes ≡ v.indexes
-after_indexes (step.DeclareInteger name e) v = refl
-after_indexes (step.DeclareCondition name c) v = refl
-after_indexes (step.SetInteger slot e) v = refl
-after_indexes (step.SetCondition slot c) v = refl
-after_indexes (step.ReduceInteger slot by e) v = refl
+after_indexes (step.DeclareInt name e) v = refl
+after_indexes (step.DeclareBool name c) v = refl
+after_indexes (step.SetInt slot e) v = refl
+after_indexes (step.SetBool slot c) v = refl
+after_indexes (step.ReduceInt slot by e) v = refl
 after_indexes (step.SetEntry vector e) v = refl
 after_indexes (step.ReduceEntry vector by e) v = refl
 after_indexes (step.If c body) v = refl
@@ -80,11 +80,11 @@ module _ (p : ProgramTree) where
 
   mutual
     step_constant : (v : VisibleTree) → v.sets ≡ p.sets → (s : FunctionStatementTree) → StepIsResolved p v s → AreConstant (step_sizes s)
-    step_constant v same (step.DeclareInteger name e) is = integer_constant v same e is.1
-    step_constant v same (step.DeclareCondition name c) is = condition_constant v same c is.1
-    step_constant v same (step.SetInteger slot e) is = integer_constant v same e is.1
-    step_constant v same (step.SetCondition slot c) is = condition_constant v same c is.1
-    step_constant v same (step.ReduceInteger slot by e) is = integer_constant v same e is.1
+    step_constant v same (step.DeclareInt name e) is = integer_constant v same e is.1
+    step_constant v same (step.DeclareBool name c) is = condition_constant v same c is.1
+    step_constant v same (step.SetInt slot e) is = integer_constant v same e is.1
+    step_constant v same (step.SetBool slot c) is = condition_constant v same c is.1
+    step_constant v same (step.ReduceInt slot by e) is = integer_constant v same e is.1
     step_constant v same (step.SetEntry vector e) is = integer_constant v same e is.1
     step_constant v same (step.ReduceEntry vector by e) is = integer_constant v same e is.1
     step_constant v same (step.If c body) is =
@@ -130,11 +130,11 @@ module _ (p : ProgramTree) where
 
   mutual
     step_local : (v : VisibleTree) → v.indexes ≡ false → (s : FunctionStatementTree) → StepIsResolved p v s → step_is_local s ≡ true
-    step_local v none (step.DeclareInteger name e) is = integer_local v none e is.1
-    step_local v none (step.DeclareCondition name c) is = condition_local v none c is.1
-    step_local v none (step.SetInteger slot e) is = integer_local v none e is.1
-    step_local v none (step.SetCondition slot c) is = condition_local v none c is.1
-    step_local v none (step.ReduceInteger slot by e) is = integer_local v none e is.1
+    step_local v none (step.DeclareInt name e) is = integer_local v none e is.1
+    step_local v none (step.DeclareBool name c) is = condition_local v none c is.1
+    step_local v none (step.SetInt slot e) is = integer_local v none e is.1
+    step_local v none (step.SetBool slot c) is = condition_local v none c is.1
+    step_local v none (step.ReduceInt slot by e) is = integer_local v none e is.1
     step_local v none (step.SetEntry vector e) is = integer_local v none e is.1
     step_local v none (step.ReduceEntry vector by e) is = integer_local v none e is.1
     step_local v none (step.If c body) is = and_from (condition_is_local c) (steps_are_local body) (condition_local v none c is.0) (steps_local v none body is.1)

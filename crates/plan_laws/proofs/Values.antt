@@ -47,11 +47,11 @@ no_values names words (set.Modified ends function vector) = refl
 
 action_values : (p : ProgramTree) (names : Names) (s : StateValue) (action : StatementKindTree) (apply_schedule : ApplySchedule) → HasNamesOfOneWord p → ActionIsGiven p names s action
     → read_indices names (statement_words p action apply_schedule ++ []) (bracket_indices (kind_of_action action)) ≡ values_of_action names.vertices s action
-action_values p names s (action.DeclareInteger name e) apply_schedule one given = one_value _ _ (integer_in_brackets p names s e one given)
-action_values p names s (action.DeclareCondition name c) apply_schedule one given = one_value _ _ (condition_in_brackets p names s c one given)
-action_values p names s (action.SetInteger slot e) apply_schedule one given = one_value _ _ (integer_in_brackets p names s e one given)
-action_values p names s (action.SetCondition slot c) apply_schedule one given = one_value _ _ (condition_in_brackets p names s c one given)
-action_values p names s (action.ReduceInteger slot reduction e) apply_schedule one given = absurd given
+action_values p names s (action.DeclareInt name e) apply_schedule one given = one_value _ _ (integer_in_brackets p names s e one given)
+action_values p names s (action.DeclareBool name c) apply_schedule one given = one_value _ _ (condition_in_brackets p names s c one given)
+action_values p names s (action.SetInt slot e) apply_schedule one given = one_value _ _ (integer_in_brackets p names s e one given)
+action_values p names s (action.SetBool slot c) apply_schedule one given = one_value _ _ (condition_in_brackets p names s c one given)
+action_values p names s (action.ReduceInt slot reduction e) apply_schedule one given = absurd given
 action_values p names s (action.SetEntry vector index e) apply_schedule one given =
     two_values _ _ _ _ (integer_in_brackets p names s index one given.0) (integer_in_brackets p names s e one given.1)
 action_values p names s (action.ReduceEntry vector index reduction e) apply_schedule one given =
@@ -59,8 +59,8 @@ action_values p names s (action.ReduceEntry vector index reduction e) apply_sche
 action_values p names s (action.DeclareSet name value) apply_schedule one given = no_values names (set_instruction_words p name value apply_schedule ++ []) value
 action_values p names s (action.AssignSet slot value) apply_schedule one given = no_values names (set_instruction_words p slot.name value apply_schedule ++ []) value
 action_values p names s (action.AddVertex slot e) apply_schedule one given = one_value _ _ (integer_in_brackets p names s e one given)
-action_values p names s (action.PrintInteger e) apply_schedule one given = one_value _ _ (integer_in_brackets p names s e one given)
-action_values p names s (action.PrintCondition c) apply_schedule one given = one_value _ _ (condition_in_brackets p names s c one given)
+action_values p names s (action.PrintInt e) apply_schedule one given = one_value _ _ (integer_in_brackets p names s e one given)
+action_values p names s (action.PrintBool c) apply_schedule one given = one_value _ _ (condition_in_brackets p names s c one given)
 action_values p names s (action.ApplyVertex slot function) apply_schedule one given = refl
 action_values p names s (action.ApplyEdges ends function) apply_schedule one given = refl
 action_values p names s (action.If c body) apply_schedule one given = refl
@@ -136,7 +136,7 @@ reduce_value names r a (Some n) = reduce_is names r a n
 
 pub reduction_is_read : (p : ProgramTree) (names : Names) (s : StateValue) (x : VarRef) (r : Reduction) (e : IntExpressionTree) (apply_schedule : ApplySchedule) → HasNamesOfOneWord p
     → IsNamed names (program_name_at p x.name) (Number (slice_index_or s.scope.integers x.index (pos 0))) → IntegerIsGiven p names s e
-    → read_reduction names (slice_index_or (statement_words p (action.ReduceInteger x r e) apply_schedule) 2 [])
+    → read_reduction names (slice_index_or (statement_words p (action.ReduceInt x r e) apply_schedule) 2 [])
     ≡ option_map (λ n. reduced r (slice_index_or s.scope.integers x.index (pos 0)) n) (int_value_in names.vertices e s)
 reduction_is_read p names s x r e apply_schedule one named given =
     let a = slice_index_or s.scope.integers x.index (pos 0) in

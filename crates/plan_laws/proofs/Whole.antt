@@ -95,7 +95,7 @@ module _ (p : ProgramTree) (s : ScheduleTree) (all : IsResolved p) (named : Name
         two = λ same. absurd (omega (arith, same));
         before = y.before;
         instruction = y.instruction;
-        behind = y.rest;
+        after = y.rest;
         plan = y.all;
         number = y.number;
         apply_schedule = y.apply_schedule ∙ ap (λ l. apply_schedule_at l s) both.first_has;

@@ -36,18 +36,18 @@ set_kind p name (set.Filter slot function) apply_schedule = refl
 set_kind p name (set.Modified ends function vector) apply_schedule = refl
 
 action_kind : (p : ProgramTree) (action : StatementKindTree) (apply_schedule : ApplySchedule) → kind_in (statement_words p action apply_schedule ++ []) ≡ kind_of_action action
-action_kind p (action.DeclareInteger name e) apply_schedule = refl
-action_kind p (action.DeclareCondition name c) apply_schedule = refl
-action_kind p (action.SetInteger slot e) apply_schedule = refl
-action_kind p (action.SetCondition slot c) apply_schedule = refl
-action_kind p (action.ReduceInteger slot reduction e) apply_schedule = refl
+action_kind p (action.DeclareInt name e) apply_schedule = refl
+action_kind p (action.DeclareBool name c) apply_schedule = refl
+action_kind p (action.SetInt slot e) apply_schedule = refl
+action_kind p (action.SetBool slot c) apply_schedule = refl
+action_kind p (action.ReduceInt slot reduction e) apply_schedule = refl
 action_kind p (action.SetEntry vector index e) apply_schedule = refl
 action_kind p (action.ReduceEntry vector index reduction e) apply_schedule = refl
 action_kind p (action.DeclareSet name value) apply_schedule = set_kind p name value apply_schedule
 action_kind p (action.AssignSet slot value) apply_schedule = set_kind p slot.name value apply_schedule
 action_kind p (action.AddVertex slot e) apply_schedule = refl
-action_kind p (action.PrintInteger e) apply_schedule = refl
-action_kind p (action.PrintCondition c) apply_schedule = refl
+action_kind p (action.PrintInt e) apply_schedule = refl
+action_kind p (action.PrintBool c) apply_schedule = refl
 action_kind p (action.ApplyVertex slot function) apply_schedule = refl
 action_kind p (action.ApplyEdges ends function) apply_schedule = refl
 action_kind p (action.If c body) apply_schedule = refl
@@ -79,18 +79,18 @@ no_index_of_set (set.Filter slot function) words = refl
 no_index_of_set (set.Modified ends function vector) words = refl
 
 no_index : (action : StatementKindTree) (words : List (List ℕ)) → index_behind (kind_of_action action) words ≡ None
-no_index (action.DeclareInteger name e) words = refl
-no_index (action.DeclareCondition name c) words = refl
-no_index (action.SetInteger slot e) words = refl
-no_index (action.SetCondition slot c) words = refl
-no_index (action.ReduceInteger slot reduction e) words = refl
+no_index (action.DeclareInt name e) words = refl
+no_index (action.DeclareBool name c) words = refl
+no_index (action.SetInt slot e) words = refl
+no_index (action.SetBool slot c) words = refl
+no_index (action.ReduceInt slot reduction e) words = refl
 no_index (action.SetEntry vector index e) words = refl
 no_index (action.ReduceEntry vector index reduction e) words = refl
 no_index (action.DeclareSet name value) words = no_index_of_set value words
 no_index (action.AssignSet slot value) words = no_index_of_set value words
 no_index (action.AddVertex slot e) words = refl
-no_index (action.PrintInteger e) words = refl
-no_index (action.PrintCondition c) words = refl
+no_index (action.PrintInt e) words = refl
+no_index (action.PrintBool c) words = refl
 no_index (action.ApplyVertex slot function) words = refl
 no_index (action.ApplyEdges ends function) words = refl
 no_index (action.If c body) words = refl
@@ -180,18 +180,18 @@ set_settings p name (set.Modified ends function vector) apply_schedule is =
 
 action_settings : (p : ProgramTree) (action : StatementKindTree) (apply_schedule : ApplySchedule) → kind_of_action action ≡ Some ApplyEdges
     → settings_in (statement_words p action apply_schedule ++ []) ≡ Some (settings_used apply_schedule)
-action_settings p (action.DeclareInteger name e) apply_schedule is = absurd cc
-action_settings p (action.DeclareCondition name c) apply_schedule is = absurd cc
-action_settings p (action.SetInteger slot e) apply_schedule is = absurd cc
-action_settings p (action.SetCondition slot c) apply_schedule is = absurd cc
-action_settings p (action.ReduceInteger slot reduction e) apply_schedule is = absurd cc
+action_settings p (action.DeclareInt name e) apply_schedule is = absurd cc
+action_settings p (action.DeclareBool name c) apply_schedule is = absurd cc
+action_settings p (action.SetInt slot e) apply_schedule is = absurd cc
+action_settings p (action.SetBool slot c) apply_schedule is = absurd cc
+action_settings p (action.ReduceInt slot reduction e) apply_schedule is = absurd cc
 action_settings p (action.SetEntry vector index e) apply_schedule is = absurd cc
 action_settings p (action.ReduceEntry vector index reduction e) apply_schedule is = absurd cc
 action_settings p (action.DeclareSet name value) apply_schedule is = set_settings p name value apply_schedule is
 action_settings p (action.AssignSet slot value) apply_schedule is = set_settings p slot.name value apply_schedule is
 action_settings p (action.AddVertex slot e) apply_schedule is = absurd cc
-action_settings p (action.PrintInteger e) apply_schedule is = absurd cc
-action_settings p (action.PrintCondition c) apply_schedule is = absurd cc
+action_settings p (action.PrintInt e) apply_schedule is = absurd cc
+action_settings p (action.PrintBool c) apply_schedule is = absurd cc
 action_settings p (action.ApplyVertex slot function) apply_schedule is = absurd cc
 action_settings p (action.ApplyEdges ends function) apply_schedule is = edges_are p ends (one_part function None) None apply_schedule
 action_settings p (action.If c body) apply_schedule is = absurd cc

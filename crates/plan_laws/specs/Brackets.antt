@@ -9,7 +9,7 @@ use Rattle.typed_tree.specs.ProgramTree.{ProgramTree}
 use Rattle.algorithm_meaning.specs.Arithmetic.{reduced}
 use Rattle.plan_laws.specs.Machine.{StackValue, Number, Stack, Names, last_byte, before_last, read_word, read_words}
 
--- no space, which is the byte 32, stands in it
+-- no space, which is the byte 32, is in it
 abbrev pub IsOneWord : List ℕ → Type 0
 IsOneWord word = AllByRecursion (λ b. b ≢ 32) word
 

@@ -1,4 +1,4 @@
--- The kinds of instructions, and where an instruction goes on, by its words and by its operation.
+-- The kinds of instructions, and where an instruction continues, by its words and by its operation.
 use Rattle.std.specs.Prelude.{ℕ, ◌^◌, List, [], ◌∷◌, ◌++◌, Option, Some, None, codes, option_and_then, slice_get}
 use Rattle.std.specs.Map.{lookup}
 use Rattle.std.specs.Str.{bytes_eq}
@@ -40,7 +40,7 @@ kinds =
 abbrev pub instruction_words : ProgramTree → InstructionTree → List (List ℕ)
 instruction_words p i = operation_words p i.apply_schedule i.operation ++ target_words i.operation
 
--- the kind that the words say, and where they say to go on
+-- the kind that the words say, and where they say to continue
 abbrev pub kind_in : List (List ℕ) → Option InstructionKind
 kind_in [] = None
 kind_in (word ∷ words) = lookup (bytes_eq word) kinds
@@ -62,18 +62,18 @@ kind_of_set (set.Filter slot function) = Filter
 kind_of_set (set.Modified ends function vector) = ApplyEdges
 
 abbrev pub kind_of_action : StatementKindTree → Option InstructionKind
-kind_of_action (action.DeclareInteger name e) = Some Set
-kind_of_action (action.DeclareCondition name c) = Some Set
-kind_of_action (action.SetInteger slot e) = Some Set
-kind_of_action (action.SetCondition slot c) = Some Set
-kind_of_action (action.ReduceInteger slot reduction e) = Some Set
+kind_of_action (action.DeclareInt name e) = Some Set
+kind_of_action (action.DeclareBool name c) = Some Set
+kind_of_action (action.SetInt slot e) = Some Set
+kind_of_action (action.SetBool slot c) = Some Set
+kind_of_action (action.ReduceInt slot reduction e) = Some Set
 kind_of_action (action.SetEntry vector index e) = Some Put
 kind_of_action (action.ReduceEntry vector index reduction e) = Some Put
 kind_of_action (action.DeclareSet name value) = Some (kind_of_set value)
 kind_of_action (action.AssignSet slot value) = Some (kind_of_set value)
 kind_of_action (action.AddVertex slot e) = Some AddVertex
-kind_of_action (action.PrintInteger e) = Some Print
-kind_of_action (action.PrintCondition c) = Some Print
+kind_of_action (action.PrintInt e) = Some Print
+kind_of_action (action.PrintBool c) = Some Print
 kind_of_action (action.ApplyVertex slot function) = Some ApplyVertices
 kind_of_action (action.ApplyEdges ends function) = Some ApplyEdges
 kind_of_action (action.If c body) = None

@@ -14,11 +14,11 @@ abbrev pub lines_in : List ℕ → List (List ℕ)
 lines_in [] = []
 lines_in (b ∷ bytes) = if b == 10 then [] ∷ lines_in bytes else put_byte b (lines_in bytes)
 
--- whether what comes after a byte stands in brackets, which are the bytes 91 and 93
+-- whether what comes after a byte is in brackets, which are the bytes 91 and 93
 abbrev pub inside_after : (inside : Bool) → ℕ → Bool
 inside_after inside b = if b == 91 then true else if b == 93 then false else inside
 
--- the words of a line, which is cut at each space (32) that stands in no brackets
+-- the words of a line, which is cut at each space (32) that is in no brackets
 abbrev pub words_of_line : (inside : Bool) → List ℕ → List (List ℕ)
 words_of_line inside [] = [] ∷ []
 words_of_line inside (b ∷ bytes) =

@@ -9,7 +9,7 @@ use Rattle.algorithm_meaning.specs.Arithmetic.{arithmetic, compared, connected, 
 use Rattle.algorithm_meaning.specs.Stand.{vertex_number}
 use Rattle.decimal.specs.Numbers.{integer_of}
 
--- what stands on the stack
+-- what is on the stack
 pub data StackValue : Type 0 where
   Number : ℤ → StackValue
   Truth : Bool → StackValue

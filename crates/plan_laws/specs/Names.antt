@@ -21,7 +21,7 @@ use Rattle.plan_text.specs.Expressions.{program_name_at, vector_name_at}
 use Rattle.plan_text.specs.Lines.{end_name, function_at}
 use Rattle.plan_laws.specs.Kinds.{InstructionKind, Set, Put, AddVertex, NewSet, AllSet, CopySet, Filter, ApplyVertices, ApplyEdges, kind_in}
 
--- what stands after the first word: of an instruction with an expression one name, and of one on sets all words
+-- what is after the first word: of an instruction with an expression one name, and of one on sets all words
 abbrev pub names_of_kind : Option InstructionKind → List (List ℕ) → List (List ℕ)
 names_of_kind (Some Set) words = slice_index_or words 1 [] ∷ []
 names_of_kind (Some Put) words = slice_index_or words 1 [] ∷ []
@@ -46,11 +46,11 @@ names_of_set p name (set.Modified ends function vector) = []
 
 -- the variable, the vector or the set that changes; the set and the functions of a vertex apply
 abbrev pub names_of_action : ProgramTree → StatementKindTree → List (List ℕ)
-names_of_action p (action.DeclareInteger name e) = program_name_at p name ∷ []
-names_of_action p (action.DeclareCondition name c) = program_name_at p name ∷ []
-names_of_action p (action.SetInteger slot e) = program_name_at p slot.name ∷ []
-names_of_action p (action.SetCondition slot c) = program_name_at p slot.name ∷ []
-names_of_action p (action.ReduceInteger slot reduction e) = program_name_at p slot.name ∷ []
+names_of_action p (action.DeclareInt name e) = program_name_at p name ∷ []
+names_of_action p (action.DeclareBool name c) = program_name_at p name ∷ []
+names_of_action p (action.SetInt slot e) = program_name_at p slot.name ∷ []
+names_of_action p (action.SetBool slot c) = program_name_at p slot.name ∷ []
+names_of_action p (action.ReduceInt slot reduction e) = program_name_at p slot.name ∷ []
 names_of_action p (action.SetEntry vector index e) = vector_name_at p vector ∷ []
 names_of_action p (action.ReduceEntry vector index reduction e) = vector_name_at p vector ∷ []
 names_of_action p (action.DeclareSet name value) = names_of_set p name value
@@ -95,7 +95,7 @@ pub record EdgeApplyNames : Type 0 where
   pub first : PartNames
   pub second : Option PartNames
 
--- `f -> s v` or `f`, and what stands after
+-- `f -> s v` or `f`, and what is after
 abbrev pub part_in : List (List ℕ) → PartNames × List (List ℕ)
 part_in (f ∷ mark ∷ s ∷ v ∷ rest) =
     if bytes_eq mark (codes "->") then (record { function = f; changed = Some (s, v) }, rest)

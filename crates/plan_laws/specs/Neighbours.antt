@@ -1,7 +1,7 @@
 -- Two statements of main, the second right after the first in a block.
 use Rattle.std.specs.Prelude.{◌≡◌, ◌⊎◌, ℕ, Option}
-use Rattle.typed_tree.specs.BlockTree.{StatementKindTree, DeclareInteger, DeclareCondition, SetInteger, SetCondition, ReduceInteger, SetEntry, ReduceEntry}
-use Rattle.typed_tree.specs.BlockTree.{DeclareSet, AssignSet, AddVertex, PrintInteger, PrintCondition, ApplyVertex, ApplyEdges, If, IfElse, While, For}
+use Rattle.typed_tree.specs.BlockTree.{StatementKindTree, DeclareInt, DeclareBool, SetInt, SetBool, ReduceInt, SetEntry, ReduceEntry}
+use Rattle.typed_tree.specs.BlockTree.{DeclareSet, AssignSet, AddVertex, PrintInt, PrintBool, ApplyVertex, ApplyEdges, If, IfElse, While, For}
 use Rattle.typed_tree.specs.BlockTree.{BlockTree, Empty, Then}
 
 -- a statement with its number and its label
@@ -16,20 +16,20 @@ BeginsWith s Empty = ⊥
 BeginsWith s (Then number label action others) = record { number = number; label = label; action = action } ≡ s
 
 abbrev mutual
-  -- the second statement stands right after the first in a block of the statement
+  -- the second statement is right after the first in a block of the statement
   pub AreNeighboursInside : (first second : StatementTree) → StatementKindTree → Type 0
-  AreNeighboursInside first second (DeclareInteger name e) = ⊥
-  AreNeighboursInside first second (DeclareCondition name c) = ⊥
-  AreNeighboursInside first second (SetInteger slot e) = ⊥
-  AreNeighboursInside first second (SetCondition slot c) = ⊥
-  AreNeighboursInside first second (ReduceInteger slot by e) = ⊥
+  AreNeighboursInside first second (DeclareInt name e) = ⊥
+  AreNeighboursInside first second (DeclareBool name c) = ⊥
+  AreNeighboursInside first second (SetInt slot e) = ⊥
+  AreNeighboursInside first second (SetBool slot c) = ⊥
+  AreNeighboursInside first second (ReduceInt slot by e) = ⊥
   AreNeighboursInside first second (SetEntry vector index e) = ⊥
   AreNeighboursInside first second (ReduceEntry vector index by e) = ⊥
   AreNeighboursInside first second (DeclareSet name value) = ⊥
   AreNeighboursInside first second (AssignSet slot value) = ⊥
   AreNeighboursInside first second (AddVertex slot e) = ⊥
-  AreNeighboursInside first second (PrintInteger e) = ⊥
-  AreNeighboursInside first second (PrintCondition c) = ⊥
+  AreNeighboursInside first second (PrintInt e) = ⊥
+  AreNeighboursInside first second (PrintBool c) = ⊥
   AreNeighboursInside first second (ApplyVertex set function) = ⊥
   AreNeighboursInside first second (ApplyEdges ends function) = ⊥
   AreNeighboursInside first second (If c body) = AreNeighbours first second body
@@ -37,7 +37,7 @@ abbrev mutual
   AreNeighboursInside first second (While c body) = AreNeighbours first second body
   AreNeighboursInside first second (For name start end body) = AreNeighbours first second body
 
-  -- so they stand in the block: as its first two statements, inside the first, or after it
+  -- so they are in the block: as its first two statements, inside the first, or after it
   pub AreNeighbours : (first second : StatementTree) → BlockTree → Type 0
   AreNeighbours first second Empty = ⊥
   AreNeighbours first second (Then number label action others) =

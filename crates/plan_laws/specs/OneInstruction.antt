@@ -35,7 +35,7 @@ AreTogether first second operation = AreEdgesTogether first second operation ⊎
 abbrev pub IsOfNeither : (first second : StatementTree) → InstructionTree → Type 0
 IsOfNeither first second i = (i.number ≢ first.number) × (i.number ≢ second.number)
 
--- Two statements stand right after each other in a block of main and have these labels. The plan has one instruction for both: it has the
+-- Two statements are right after each other in a block of main and have these labels. The plan has one instruction for both: it has the
 -- number of the first, goes by what the schedule says of the first label, and does the two applies together. Each other instruction, before
 -- it and after it, has another number than theirs.
 pub record IsOneInstruction (p : ProgramTree) (s : ScheduleTree) (first_label second_label : ℕ) : Type 0 where
@@ -47,10 +47,10 @@ pub record IsOneInstruction (p : ProgramTree) (s : ScheduleTree) (first_label se
   pub two : first.number ≢ second.number
   pub before : List InstructionTree
   pub instruction : InstructionTree
-  pub behind : List InstructionTree
-  pub plan : plan_of p s ≡ before ++ instruction ∷ behind
+  pub after : List InstructionTree
+  pub plan : plan_of p s ≡ before ++ instruction ∷ after
   pub number : instruction.number ≡ first.number
   pub apply_schedule : instruction.apply_schedule ≡ apply_schedule_of first_label s
   pub together : AreTogether first.action second.action instruction.operation
   pub others_before : AllByRecursion (IsOfNeither first second) before
-  pub others_after : AllByRecursion (IsOfNeither first second) behind
+  pub others_after : AllByRecursion (IsOfNeither first second) after

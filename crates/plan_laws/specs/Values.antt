@@ -1,4 +1,4 @@
--- The brackets of instructions, and the values that stand in them.
+-- The brackets of instructions, and the values that are in them.
 use Rattle.std.specs.Prelude.{ℕ, int_lt, List, [], ◌∷◌, Option, Some, map, slice_index_or}
 use Rattle.std.specs.Option.{option_map}
 use Rattle.typed_tree.specs.IntExpressionTree.{IntExpressionTree}
@@ -31,7 +31,7 @@ bracket_indices _ = []
 abbrev pub read_indices : Names → List (List ℕ) → List ℕ → List Stack
 read_indices names words indices = map (λ index. read_brackets names (slice_index_or words index [])) indices
 
--- what stands in the brackets of these words
+-- what is in the brackets of these words
 abbrev pub values_in : Names → List (List ℕ) → List Stack
 values_in names words = read_indices names words (bracket_indices (kind_in words))
 
@@ -43,15 +43,15 @@ truth_on vertices s c = option_map (λ b. Truth b ∷ []) (bool_value_in vertice
 
 -- the values that an instruction takes in a state
 abbrev pub values_of_action : ℕ → StateValue → StatementKindTree → List Stack
-values_of_action vertices s (action.DeclareInteger name e) = number_on vertices s e ∷ []
-values_of_action vertices s (action.DeclareCondition name c) = truth_on vertices s c ∷ []
-values_of_action vertices s (action.SetInteger slot e) = number_on vertices s e ∷ []
-values_of_action vertices s (action.SetCondition slot c) = truth_on vertices s c ∷ []
+values_of_action vertices s (action.DeclareInt name e) = number_on vertices s e ∷ []
+values_of_action vertices s (action.DeclareBool name c) = truth_on vertices s c ∷ []
+values_of_action vertices s (action.SetInt slot e) = number_on vertices s e ∷ []
+values_of_action vertices s (action.SetBool slot c) = truth_on vertices s c ∷ []
 values_of_action vertices s (action.SetEntry vector index e) = number_on vertices s index ∷ number_on vertices s e ∷ []
 values_of_action vertices s (action.ReduceEntry vector index reduction e) = number_on vertices s index ∷ number_on vertices s e ∷ []
 values_of_action vertices s (action.AddVertex slot e) = number_on vertices s e ∷ []
-values_of_action vertices s (action.PrintInteger e) = number_on vertices s e ∷ []
-values_of_action vertices s (action.PrintCondition c) = truth_on vertices s c ∷ []
+values_of_action vertices s (action.PrintInt e) = number_on vertices s e ∷ []
+values_of_action vertices s (action.PrintBool c) = truth_on vertices s c ∷ []
 values_of_action vertices s _ = []
 
 -- and in the loop that is innermost
@@ -65,16 +65,16 @@ values_of vertices r s _ = []
 
 -- it is known what the expressions of an instruction speak of; a variable that is reduced is read by a law of its own
 abbrev pub ActionIsGiven : ProgramTree → Names → StateValue → StatementKindTree → Type 0
-ActionIsGiven p names s (action.DeclareInteger name e) = IntegerIsGiven p names s e
-ActionIsGiven p names s (action.DeclareCondition name c) = ConditionIsGiven p names s c
-ActionIsGiven p names s (action.SetInteger slot e) = IntegerIsGiven p names s e
-ActionIsGiven p names s (action.SetCondition slot c) = ConditionIsGiven p names s c
-ActionIsGiven p names s (action.ReduceInteger slot reduction e) = ⊥
+ActionIsGiven p names s (action.DeclareInt name e) = IntegerIsGiven p names s e
+ActionIsGiven p names s (action.DeclareBool name c) = ConditionIsGiven p names s c
+ActionIsGiven p names s (action.SetInt slot e) = IntegerIsGiven p names s e
+ActionIsGiven p names s (action.SetBool slot c) = ConditionIsGiven p names s c
+ActionIsGiven p names s (action.ReduceInt slot reduction e) = ⊥
 ActionIsGiven p names s (action.SetEntry vector index e) = IntegerIsGiven p names s index × IntegerIsGiven p names s e
 ActionIsGiven p names s (action.ReduceEntry vector index reduction e) = IntegerIsGiven p names s index × IntegerIsGiven p names s e
 ActionIsGiven p names s (action.AddVertex slot e) = IntegerIsGiven p names s e
-ActionIsGiven p names s (action.PrintInteger e) = IntegerIsGiven p names s e
-ActionIsGiven p names s (action.PrintCondition c) = ConditionIsGiven p names s c
+ActionIsGiven p names s (action.PrintInt e) = IntegerIsGiven p names s e
+ActionIsGiven p names s (action.PrintBool c) = ConditionIsGiven p names s c
 ActionIsGiven p names s _ = Unit {0}
 
 -- of a loop the name has its next number, and the name that the loop keeps beside it its bound

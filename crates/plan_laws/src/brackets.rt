@@ -6,7 +6,7 @@ ghost use Rattle.apply_options.specs.declared.reduction.Reduction as reduction;
 ghost use Rattle.typed_tree.specs.declared.expression.VarRef as slot;
 ghost use Rattle.typed_tree.specs.IntExpressionTree.{IntExpressionTree};
 ghost use Rattle.typed_tree.specs.BoolExpressionTree.{BoolExpressionTree};
-ghost use Rattle.typed_tree.specs.BlockTree.{ReduceInteger};
+ghost use Rattle.typed_tree.specs.BlockTree.{ReduceInt};
 ghost use Rattle.typed_tree.specs.ProgramTree.{ProgramTree};
 ghost use Rattle.algorithm_meaning.specs.declared.state.LoopCounter as counter;
 ghost use Rattle.algorithm_meaning.specs.Arithmetic.{reduced};
@@ -44,6 +44,6 @@ pub fn reductions_are_read_by_hand()
     ensures { (p : ProgramTree) (names : Names) (s : StateValue) (x : slot.VarRef) (r : reduction.Reduction) (e : IntExpressionTree) (apply_schedule : schedule.ApplySchedule)
         → HasNamesOfOneWord p → IsNamed names (program_name_at p x.name) (Number (slice_index_or s.scope.integers x.index (pos 0)))
         → IntegerIsGiven p names s e
-        → read_reduction names (slice_index_or (statement_words p (ReduceInteger x r e) apply_schedule) 2 [])
+        → read_reduction names (slice_index_or (statement_words p (ReduceInt x r e) apply_schedule) 2 [])
         ≡ option_map (λ n. reduced r (slice_index_or s.scope.integers x.index (pos 0)) n) (int_value_in names.vertices e s) }
 {}

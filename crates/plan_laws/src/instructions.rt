@@ -12,7 +12,7 @@ pub fn first_words_say_the_kind()
     ensures { (p : ProgramTree) (i : InstructionTree) → kind_in (instruction_words p i) ≡ instruction_kind_of i.operation }
 {}
 
-/// The law that the words of an instruction say where it may go on: at the number that stands after a test, or after
+/// The law that the words of an instruction say where it may continue: at the number that is after a test, or after
 /// `jump`. The call does nothing.
 pub fn words_say_where_to_go()
     ensures { (p : ProgramTree) (i : InstructionTree) → IfSome (index_of i.operation) (λ to. to < 2 ^ 64)

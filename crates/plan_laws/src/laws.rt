@@ -6,7 +6,7 @@ ghost use Rattle.types.specs.Program.{Checks};
 ghost use Rattle.type_laws.specs.LoopVariables.{KeepsLoopVariables};
 ghost use Rattle.apply_options.specs.ScheduleTree.{ScheduleTree, apply_schedule_of};
 ghost use Rattle.apply_options.specs.declared.apply_schedule.Fused.TheVariants.{With};
-ghost use Rattle.algorithm_meaning.specs.Meaning.{opening};
+ghost use Rattle.algorithm_meaning.specs.Meaning.{initial_state};
 ghost use Rattle.algorithm_meaning.specs.State.{GraphValue};
 ghost use Rattle.schedule.specs.Calls.{schedule_of};
 ghost use Rattle.plans.specs.Machine.{first_configuration, steps};
@@ -16,7 +16,7 @@ ghost use Rattle.plan_laws.specs.LoopCounters.{CountersAreVariables};
 ghost use Rattle.plan_laws.specs.OneInstruction.{IsOneInstruction};
 
 /// The law that two statements which an accepted schedule of a checked program fuses are one instruction of the plan. The
-/// two stand right after each other in a block of `main`, and are edge applies between the same ends or vertex applies to
+/// two are right after each other in a block of `main`, and are edge applies between the same ends or vertex applies to
 /// the same set. The plan has one instruction for both: it has the number of the first, goes by what the schedule says of the
 /// first, and does the two applies together. No other instruction has the number of either.
 pub fn fused_statements_are_one_instruction()
@@ -30,7 +30,7 @@ pub fn fused_statements_are_one_instruction()
 /// gives its groups up.
 pub fn accepted_groups_fit()
     ensures { (program : ProgramTree) (schedule : ScheduleTree) → schedule_of program ≡ Ok schedule → (graph : GraphValue) (turns : ℕ)
-        → IsGrouping (opening program graph turns).vectors schedule.groups }
+        → IsGrouping (initial_state program graph turns).vectors schedule.groups }
 {}
 
 /// The law that the counters of `for` loops, by which the machine goes, are the variables that a plan's text names. In each
@@ -41,8 +41,8 @@ pub fn accepted_groups_fit()
 pub fn loop_counters_are_variables()
     ensures checked { (source : SourceTree) (length : ℕ) (program : ProgramTree) (schedule : ScheduleTree) → Checks source length (Ok program)
         → (graph : GraphValue) (turns count : ℕ) → CountersAreVariables (plan_of program schedule)
-        (steps program graph (plan_of program schedule) count (first_configuration (opening program graph turns))) }
+        (steps program graph (plan_of program schedule) count (first_configuration (initial_state program graph turns))) }
     ensures keeping { (program : ProgramTree) (schedule : ScheduleTree) → KeepsLoopVariables program → (graph : GraphValue) (turns count : ℕ)
         → CountersAreVariables (plan_of program schedule)
-        (steps program graph (plan_of program schedule) count (first_configuration (opening program graph turns))) }
+        (steps program graph (plan_of program schedule) count (first_configuration (initial_state program graph turns))) }
 {}

@@ -17,7 +17,7 @@
 //!
 //! The first word of an instruction says its kind (`first_words_say_the_kind`), and the words after it what it works on
 //! (`words_name_what_is_worked_on`, `words_name_edge_applies`), by which reduction an entry changes (`words_say_the_reduction`),
-//! where a run may go on (`words_say_where_to_go`), and by what the engines do an edge apply (`words_say_the_settings`). These laws
+//! where a run may continue (`words_say_where_to_go`), and by what the engines do an edge apply (`words_say_the_settings`). These laws
 //! speak of words. The text of a plan, cut into lines and these into words, is the words of its instructions
 //! (`lines_are_cut_into_words`, `texts_are_cut_into_instructions`).
 #![tactic(auto)]

@@ -8,7 +8,7 @@ ghost use Rattle.lowering.specs.Text.{text_of};
 ghost use Rattle.plan_laws.specs.Kinds.{instruction_words};
 ghost use Rattle.plan_laws.specs.Lines.{HasBareNames, words_of_line, words_of_lines, words_of_plan};
 
-/// The law that a line, cut at each space that stands in no brackets, is the number of an instruction and its words. The call
+/// The law that a line, cut at each space that is in no brackets, is the number of an instruction and its words. The call
 /// does nothing.
 pub fn lines_are_cut_into_words()
     ensures { (p : ProgramTree) (number : ℕ) (i : InstructionTree) → HasBareNames p

@@ -7,7 +7,7 @@ use Rattle.typed_tree.specs.IntExpressionTree as integer
 use Rattle.typed_tree.specs.IntExpressionTree.{IntExpressionTree, negated, int_expression_tree}
 use Rattle.typed_tree.specs.inside.IntExpressionTree.{operands_tree}
 use Rattle.typed_tree.specs.BoolExpressionTree as condition
-use Rattle.typed_tree.specs.BoolExpressionTree.{BoolExpressionTree, turned, bool_expression_tree}
+use Rattle.typed_tree.specs.BoolExpressionTree.{BoolExpressionTree, inverted, bool_expression_tree}
 use Rattle.typed_tree.specs.inside.BoolExpressionTree.{conditions_tree}
 use Rattle.typed_tree.specs.ProgramTree.{ProgramTree}
 use Rattle.std.specs.Global.{Box}
@@ -27,10 +27,10 @@ words_negated p (suc n) e =
     ∙ append_assoc (integer_words p e) (times n (codes "neg")) (codes "neg" ∷ [])
     ∙ ap (λ ws. integer_words p e ++ ws) (sym (times_suc n (codes "neg")))
 
-pub words_turned : (p : ProgramTree) (turns : ℕ) (c : BoolExpressionTree) → condition_words p (turned turns c) ≡ condition_words p c ++ times turns (codes "not")
-words_turned p zero c = sym (append-nil (condition_words p c))
-words_turned p (suc n) c =
-    ap (λ ws. ws ++ codes "not" ∷ []) (words_turned p n c)
+pub words_inverted : (p : ProgramTree) (nots : ℕ) (c : BoolExpressionTree) → condition_words p (inverted nots c) ≡ condition_words p c ++ times nots (codes "not")
+words_inverted p zero c = sym (append-nil (condition_words p c))
+words_inverted p (suc n) c =
+    ap (λ ws. ws ++ codes "not" ∷ []) (words_inverted p n c)
     ∙ append_assoc (condition_words p c) (times n (codes "not")) (codes "not" ∷ [])
     ∙ ap (λ ws. condition_words p c ++ ws) (sym (times_suc n (codes "not")))
 
@@ -77,5 +77,5 @@ int_expression_tree-Entry vector index = search (rules, the_lemmas)
 pub int_expression_tree-Negative : (signs : ℕ) (e : Box IntExpression) → int_expression_tree (integer_views.Negative signs e) ≡ negated signs (int_expression_tree e.value)
 int_expression_tree-Negative signs e = search (rules, the_lemmas)
 
-pub bool_expression_tree-Not : (turns : ℕ) (c : Box BoolExpression) → bool_expression_tree (condition_views.Not turns c) ≡ turned turns (bool_expression_tree c.value)
-bool_expression_tree-Not turns c = search (rules, the_condition_lemmas)
+pub bool_expression_tree-Not : (nots : ℕ) (c : Box BoolExpression) → bool_expression_tree (condition_views.Not nots c) ≡ inverted nots (bool_expression_tree c.value)
+bool_expression_tree-Not nots c = search (rules, the_condition_lemmas)

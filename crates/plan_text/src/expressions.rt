@@ -72,9 +72,9 @@ pub(crate) fn put_condition(
         BoolExpression::Literal(b) => put_word(out, truth_text(*b)),
         BoolExpression::Constant(name, _) => put_word(out, lines.name(*name)),
         BoolExpression::Variable(slot) => put_word(out, lines.name(slot.name)),
-        BoolExpression::Not(turns, c) => {
+        BoolExpression::Not(nots, c) => {
             put_condition(out, lines, c)?;
-            put_times(out, b"not", *turns)
+            put_times(out, b"not", *nots)
         }
         BoolExpression::Compare(comparison, left, right) => {
             put_integer(out, lines, left)?;

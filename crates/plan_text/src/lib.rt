@@ -4,7 +4,7 @@
 //! first. `specs/Lines.antt` says what words each instruction has, in the names of the program. [`Lines`] puts them at the
 //! end of a text, each with a space after it, and [`end_line`] makes a line of them.
 //!
-//! Plans stand on it, and keep the words of each instruction.
+//! Plans depend on it, and keep the words of each instruction.
 #![tactic(auto)]
 
 mod applied_function;

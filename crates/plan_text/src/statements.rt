@@ -67,11 +67,11 @@ impl Lines<'_> {
             ++ spaced (statement_words (program_tree self.entry.program.now) (statement_kind_tree action.now) apply_schedule)) }
     {
         match action {
-            StatementKind::DeclareInteger(name, e) => self.put_set_integer(out, *name, e),
-            StatementKind::DeclareCondition(name, c) => self.put_set_condition(out, *name, c),
-            StatementKind::SetInteger(slot, e) => self.put_set_integer(out, slot.name, e),
-            StatementKind::SetCondition(slot, c) => self.put_set_condition(out, slot.name, c),
-            StatementKind::ReduceInteger(slot, reduction, e) => {
+            StatementKind::DeclareInt(name, e) => self.put_set_integer(out, *name, e),
+            StatementKind::DeclareBool(name, c) => self.put_set_condition(out, *name, c),
+            StatementKind::SetInt(slot, e) => self.put_set_integer(out, slot.name, e),
+            StatementKind::SetBool(slot, c) => self.put_set_condition(out, slot.name, c),
+            StatementKind::ReduceInt(slot, reduction, e) => {
                 self.put_reduction(out, slot.name, *reduction, e)
             }
             StatementKind::SetEntry(vector, index, e) => self.put_put(out, *vector, index, b"=", e),
@@ -79,8 +79,8 @@ impl Lines<'_> {
                 self.put_put(out, *vector, index, reduction_text(*reduction), e)
             }
             StatementKind::AddVertex(slot, e) => self.put_add_vertex(out, slot.name, e),
-            StatementKind::PrintInteger(e) => self.put_print(out, e),
-            StatementKind::PrintCondition(c) => self.put_condition_after(out, b"print", c),
+            StatementKind::PrintInt(e) => self.put_print(out, e),
+            StatementKind::PrintBool(c) => self.put_condition_after(out, b"print", c),
             _ => unreachable!(),
         }
     }

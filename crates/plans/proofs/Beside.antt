@@ -8,12 +8,12 @@ use Rattle.typed_tree.specs.IntExpressionTree as integer
 use Rattle.typed_tree.specs.IntExpressionTree.{IntExpressionTree}
 use Rattle.typed_tree.specs.BoolExpressionTree as condition
 use Rattle.typed_tree.specs.BoolExpressionTree.{BoolExpressionTree}
-use Rattle.typed_tree.specs.FunctionStatementTree.{FunctionStatementTree, DeclareInteger, DeclareCondition, SetInteger, SetCondition, ReduceInteger, SetEntry, ReduceEntry, If, IfElse}
+use Rattle.typed_tree.specs.FunctionStatementTree.{FunctionStatementTree, DeclareInt, DeclareBool, SetInt, SetBool, ReduceInt, SetEntry, ReduceEntry, If, IfElse}
 use Rattle.typed_tree.specs.FunctionStatementTree.{FunctionStatementsTree, NoStep, StepThen}
 use Rattle.algorithm_meaning.specs.Arithmetic.{negative, arithmetic, compared, connected}
 use Rattle.algorithm_meaning.specs.State.{ScopeValue, edge_scope, filter_scope}
 use Rattle.algorithm_meaning.specs.Value.{vertex_at, entry_at, members_of, value, truth}
-use Rattle.algorithm_meaning.specs.Statements.{new_integer, new_condition, set_integer, set_condition, reduce_integer, forget_new}
+use Rattle.algorithm_meaning.specs.Statements.{new_integer, new_condition, set_int, set_bool, reduce_int, forget_new}
 use Rattle.algorithm_meaning.specs.Function.{WorkValue, first_work, after_set, after_reduce, after_step, after_steps, after_block, result_of}
 use Rattle.algorithm_meaning.specs.EdgeApply.{gives}
 use Rattle.typed_tree.specs.Independence.{is_none_of, are_apart}
@@ -121,21 +121,21 @@ module _ (vectors indices : List ℕ) (a b : List SetBinding) (sets_agree : Sets
   mutual
     step_beside : (step : FunctionStatementTree) (v w : WorkValue) → IsBeside vectors v w → are_apart (step_uses step) vectors ≡ true → are_apart (step_sizes step) indices ≡ true
         → IsBeside vectors (after_step writing a step v) (after_step writing b step w)
-    step_beside (DeclareInteger name e) v w h uses sizes =
+    step_beside (DeclareInt name e) v w h uses sizes =
         let x = value_beside vectors indices a b sets_agree v w h e uses sizes in
         record { rows = h.rows; scope = λ i. new_integer (h.scope i) (x i); given = h.given }
-    step_beside (DeclareCondition name c) v w h uses sizes =
+    step_beside (DeclareBool name c) v w h uses sizes =
         let x = truth_beside vectors indices a b sets_agree v w h c uses sizes in
         record { rows = h.rows; scope = λ i. new_condition (h.scope i) (x i); given = h.given }
-    step_beside (SetInteger slot e) v w h uses sizes =
+    step_beside (SetInt slot e) v w h uses sizes =
         let x = value_beside vectors indices a b sets_agree v w h e uses sizes in
-        record { rows = h.rows; scope = λ i. set_integer (h.scope i) slot.index (x i); given = h.given }
-    step_beside (SetCondition slot c) v w h uses sizes =
+        record { rows = h.rows; scope = λ i. set_int (h.scope i) slot.index (x i); given = h.given }
+    step_beside (SetBool slot c) v w h uses sizes =
         let x = truth_beside vectors indices a b sets_agree v w h c uses sizes in
-        record { rows = h.rows; scope = λ i. set_condition (h.scope i) slot.index (x i); given = h.given }
-    step_beside (ReduceInteger slot reduction e) v w h uses sizes =
+        record { rows = h.rows; scope = λ i. set_bool (h.scope i) slot.index (x i); given = h.given }
+    step_beside (ReduceInt slot reduction e) v w h uses sizes =
         let x = value_beside vectors indices a b sets_agree v w h e uses sizes in
-        record { rows = h.rows; scope = λ i. reduce_integer (h.scope i) slot.index reduction (x i); given = h.given }
+        record { rows = h.rows; scope = λ i. reduce_int (h.scope i) slot.index reduction (x i); given = h.given }
     step_beside (SetEntry vector e) v w h uses sizes = set_beside v w h vector (value v.vectors a v.scope e) (value w.vectors b w.scope e)
     step_beside (ReduceEntry vector reduction e) v w h uses sizes =
         let own = and_parts (is_none_of vector vectors) (are_apart (integer_reads e) vectors) uses in

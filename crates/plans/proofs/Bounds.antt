@@ -4,8 +4,8 @@ use Rattle.typed_tree.specs.declared.expression.VarRef.{VarRef}
 use Rattle.typed_tree.specs.declared.statement.ApplyEnds.{ApplyEnds}
 use Rattle.typed_tree.specs.IntExpressionTree.{IntExpressionTree}
 use Rattle.typed_tree.specs.BoolExpressionTree.{BoolExpressionTree, Literal}
-use Rattle.typed_tree.specs.BlockTree.{StatementKindTree, DeclareInteger, DeclareCondition, SetInteger, SetCondition, ReduceInteger, SetEntry, ReduceEntry, DeclareSet, AssignSet, AddVertex}
-use Rattle.typed_tree.specs.BlockTree.{PrintInteger, PrintCondition, ApplyVertex}
+use Rattle.typed_tree.specs.BlockTree.{StatementKindTree, DeclareInt, DeclareBool, SetInt, SetBool, ReduceInt, SetEntry, ReduceEntry, DeclareSet, AssignSet, AddVertex}
+use Rattle.typed_tree.specs.BlockTree.{PrintInt, PrintBool, ApplyVertex}
 use Rattle.algorithm_meaning.specs.declared.state.Depth.{Depth}
 use Rattle.plans.specs.Instruction.{EdgePartTree, OperationTree, Do, ApplyEdgesTogether, ApplyVerticesTogether, Unless, Enter, UnlessBelow, Advance, Turn, Jump, End, InstructionTree}
 use Rattle.algorithm_meaning.specs.declared.state.LoopCounter.{LoopCounter}
@@ -86,18 +86,18 @@ jump_alike to = record { turn = refl; rank = λ count index b. by_test count ind
 
 -- of an operation it sees the outline
 sees_alike : (keep shown : Depth) (o : PlanOperation) (t : OperationTree) → IsOperation keep shown o t → SameBound (outline o) t
-sees_alike keep shown (op.DeclareInteger name k) t is = subst (SameBound End) (sym is.is) (do_alike (DeclareInteger name is.tree))
-sees_alike keep shown (op.DeclareCondition name k) t is = subst (SameBound End) (sym is.is) (do_alike (DeclareCondition name is.tree))
-sees_alike keep shown (op.SetInteger slot k) t is = subst (SameBound End) (sym is.is) (do_alike (SetInteger slot is.tree))
-sees_alike keep shown (op.SetCondition slot k) t is = subst (SameBound End) (sym is.is) (do_alike (SetCondition slot is.tree))
-sees_alike keep shown (op.ReduceInteger slot reduction k) t is = subst (SameBound End) (sym is.is) (do_alike (ReduceInteger slot reduction is.tree))
+sees_alike keep shown (op.DeclareInt name k) t is = subst (SameBound End) (sym is.is) (do_alike (DeclareInt name is.tree))
+sees_alike keep shown (op.DeclareBool name k) t is = subst (SameBound End) (sym is.is) (do_alike (DeclareBool name is.tree))
+sees_alike keep shown (op.SetInt slot k) t is = subst (SameBound End) (sym is.is) (do_alike (SetInt slot is.tree))
+sees_alike keep shown (op.SetBool slot k) t is = subst (SameBound End) (sym is.is) (do_alike (SetBool slot is.tree))
+sees_alike keep shown (op.ReduceInt slot reduction k) t is = subst (SameBound End) (sym is.is) (do_alike (ReduceInt slot reduction is.tree))
 sees_alike keep shown (op.SetEntry vector index k) t is = subst (SameBound End) (sym is.is) (do_alike (SetEntry vector is.index_tree is.value_tree))
 sees_alike keep shown (op.ReduceEntry vector index reduction k) t is = subst (SameBound End) (sym is.is) (do_alike (ReduceEntry vector is.index_tree reduction is.value_tree))
 sees_alike keep shown (op.DeclareSet name members) t is = subst (SameBound End) (sym is) (do_alike (DeclareSet name (set_value members)))
 sees_alike keep shown (op.AssignSet slot members) t is = subst (SameBound End) (sym is) (do_alike (AssignSet slot (set_value members)))
 sees_alike keep shown (op.AddVertex slot k) t is = subst (SameBound End) (sym is.is) (do_alike (AddVertex slot is.tree))
-sees_alike keep shown (op.PrintInteger k) t is = subst (SameBound End) (sym is.is) (do_alike (PrintInteger is.tree))
-sees_alike keep shown (op.PrintCondition k) t is = subst (SameBound End) (sym is.is) (do_alike (PrintCondition is.tree))
+sees_alike keep shown (op.PrintInt k) t is = subst (SameBound End) (sym is.is) (do_alike (PrintInt is.tree))
+sees_alike keep shown (op.PrintBool k) t is = subst (SameBound End) (sym is.is) (do_alike (PrintBool is.tree))
 sees_alike keep shown (op.ApplyVertices set first None) t is = subst (SameBound End) (sym is) (do_alike (ApplyVertex set first))
 sees_alike keep shown (op.ApplyVertices set first (Some second)) t is = subst (SameBound End) (sym is) (vertices_alike set first second)
 sees_alike keep shown (op.ApplyEdges ends first None) t is = subst (SameBound End) (sym is.is) (do_alike (is.action))

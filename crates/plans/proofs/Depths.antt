@@ -2,8 +2,8 @@
 use Rattle.std.proofs.Common.{◌≡◌, ℕ, zero, suc, ◌≤◌, List, [], ◌∷◌, take, ap, sym, ◌∙◌, refl, arith}
 use Rattle.std.proofs.Math.Seq.{take-length}
 use Rattle.std.proofs.lemmas.List.{length-take-le}
-use Rattle.typed_tree.specs.BlockTree.{StatementKindTree, DeclareInteger, DeclareCondition, SetInteger, SetCondition, ReduceInteger, SetEntry, ReduceEntry, DeclareSet, AssignSet, AddVertex}
-use Rattle.typed_tree.specs.BlockTree.{PrintInteger, PrintCondition, ApplyVertex, ApplyEdges, If, IfElse, While, For, BlockTree, Empty, Then}
+use Rattle.typed_tree.specs.BlockTree.{StatementKindTree, DeclareInt, DeclareBool, SetInt, SetBool, ReduceInt, SetEntry, ReduceEntry, DeclareSet, AssignSet, AddVertex}
+use Rattle.typed_tree.specs.BlockTree.{PrintInt, PrintBool, ApplyVertex, ApplyEdges, If, IfElse, While, For, BlockTree, Empty, Then}
 use Rattle.algorithm_meaning.specs.State.{StateValue}
 use Rattle.algorithm_meaning.specs.declared.state.Depth.{Depth}
 use Rattle.plans.specs.inside.Plan.{IsWithin}
@@ -24,18 +24,18 @@ pub within_loop : (d : Depth) → IsWithin d (depth_in_loop d)
 within_loop d = record { integers = omega arith; conditions = omega arith; sets = omega arith }
 
 pub within_after : (a : StatementKindTree) (d : Depth) → IsWithin d (depth_after a d)
-within_after (DeclareInteger name e) d = record { integers = omega arith; conditions = omega arith; sets = omega arith }
-within_after (DeclareCondition name c) d = record { integers = omega arith; conditions = omega arith; sets = omega arith }
+within_after (DeclareInt name e) d = record { integers = omega arith; conditions = omega arith; sets = omega arith }
+within_after (DeclareBool name c) d = record { integers = omega arith; conditions = omega arith; sets = omega arith }
 within_after (DeclareSet name set) d = record { integers = omega arith; conditions = omega arith; sets = omega arith }
-within_after (SetInteger slot e) d = within_itself d
-within_after (SetCondition slot c) d = within_itself d
-within_after (ReduceInteger slot reduction e) d = within_itself d
+within_after (SetInt slot e) d = within_itself d
+within_after (SetBool slot c) d = within_itself d
+within_after (ReduceInt slot reduction e) d = within_itself d
 within_after (SetEntry vector index e) d = within_itself d
 within_after (ReduceEntry vector index reduction e) d = within_itself d
 within_after (AssignSet slot set) d = within_itself d
 within_after (AddVertex slot e) d = within_itself d
-within_after (PrintInteger e) d = within_itself d
-within_after (PrintCondition c) d = within_itself d
+within_after (PrintInt e) d = within_itself d
+within_after (PrintBool c) d = within_itself d
 within_after (ApplyVertex set function) d = within_itself d
 within_after (ApplyEdges ends function) d = within_itself d
 within_after (If c body) d = within_itself d

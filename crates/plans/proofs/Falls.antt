@@ -1,7 +1,7 @@
 -- Each step leaves fewer.
 use Rattle.std.proofs.Common.{◌≡◌, ℕ, zero, suc, ◌+◌, ◌*◌, ◌<◌, ℤ, Bool, true, false, if◌then◌else◌, int_lt, List, [], ◌∷◌, length, Option, Some, None, slice_get, ap, sym, ◌∙◌, refl, arith, subst}
-use Rattle.typed_tree.specs.BlockTree.{StatementKindTree, DeclareInteger, DeclareCondition, SetInteger, SetCondition, ReduceInteger, SetEntry, ReduceEntry, DeclareSet, AssignSet, AddVertex}
-use Rattle.typed_tree.specs.BlockTree.{PrintInteger, PrintCondition, ApplyVertex, ApplyEdges, If, IfElse, While, For}
+use Rattle.typed_tree.specs.BlockTree.{StatementKindTree, DeclareInt, DeclareBool, SetInt, SetBool, ReduceInt, SetEntry, ReduceEntry, DeclareSet, AssignSet, AddVertex}
+use Rattle.typed_tree.specs.BlockTree.{PrintInt, PrintBool, ApplyVertex, ApplyEdges, If, IfElse, While, For}
 use Rattle.typed_tree.specs.ProgramTree.{ProgramTree}
 use Rattle.algorithm_meaning.specs.State.{GraphValue, StateValue}
 use Rattle.algorithm_meaning.specs.Stand.{Stand, Live, Over, with_value, int_value_in, bool_value_in, vertex_in}
@@ -30,11 +30,11 @@ by_value (Some x) number n s go h = h x
 module _ (p : ProgramTree) (g : GraphValue) where
   -- a statement without a block uses no turn
   turns_stay : (a : StatementKindTree) → HasNoBlock a → (number : ℕ) (s : StateValue) → HasTurns s.turns (after p g number a s)
-  turns_stay (DeclareInteger name e) alone number s = by_value (int_value_in g.vertices e s) number s.turns s _ (λ n. refl)
-  turns_stay (DeclareCondition name c) alone number s = by_value (bool_value_in g.vertices c s) number s.turns s _ (λ b. refl)
-  turns_stay (SetInteger slot e) alone number s = by_value (int_value_in g.vertices e s) number s.turns s _ (λ n. refl)
-  turns_stay (SetCondition slot c) alone number s = by_value (bool_value_in g.vertices c s) number s.turns s _ (λ b. refl)
-  turns_stay (ReduceInteger slot reduction e) alone number s = by_value (int_value_in g.vertices e s) number s.turns s _ (λ n. refl)
+  turns_stay (DeclareInt name e) alone number s = by_value (int_value_in g.vertices e s) number s.turns s _ (λ n. refl)
+  turns_stay (DeclareBool name c) alone number s = by_value (bool_value_in g.vertices c s) number s.turns s _ (λ b. refl)
+  turns_stay (SetInt slot e) alone number s = by_value (int_value_in g.vertices e s) number s.turns s _ (λ n. refl)
+  turns_stay (SetBool slot c) alone number s = by_value (bool_value_in g.vertices c s) number s.turns s _ (λ b. refl)
+  turns_stay (ReduceInt slot reduction e) alone number s = by_value (int_value_in g.vertices e s) number s.turns s _ (λ n. refl)
   turns_stay (SetEntry vector index e) alone number s =
       by_value (vertex_in g.vertices index s) number s.turns s _ (λ v. by_value (int_value_in g.vertices e s) number s.turns s _ (λ n. refl))
   turns_stay (ReduceEntry vector index reduction e) alone number s =
@@ -42,8 +42,8 @@ module _ (p : ProgramTree) (g : GraphValue) where
   turns_stay (DeclareSet name set) alone number s = refl
   turns_stay (AssignSet slot set) alone number s = refl
   turns_stay (AddVertex slot e) alone number s = by_value (vertex_in g.vertices e s) number s.turns s _ (λ v. refl)
-  turns_stay (PrintInteger e) alone number s = by_value (int_value_in g.vertices e s) number s.turns s _ (λ n. refl)
-  turns_stay (PrintCondition c) alone number s = by_value (bool_value_in g.vertices c s) number s.turns s _ (λ b. refl)
+  turns_stay (PrintInt e) alone number s = by_value (int_value_in g.vertices e s) number s.turns s _ (λ n. refl)
+  turns_stay (PrintBool c) alone number s = by_value (bool_value_in g.vertices c s) number s.turns s _ (λ b. refl)
   turns_stay (ApplyVertex set function) alone number s = refl
   turns_stay (ApplyEdges ends function) alone number s = refl
   turns_stay (If c body) alone number s = absurd alone

@@ -2,7 +2,7 @@
 use Rattle.std.proofs.Common.{◌≡◌, ℕ, ◌+◌, ℤ, pos, int_lt, Bool, true, false, if◌then◌else◌, List, [], ◌∷◌, ◌++◌, Option, Some, None, slice_get, slice_index_or, ap, sym, ◌∙◌, refl, arith}
 use Rattle.std.proofs.Math.Seq.{get_or-append_seam}
 use Rattle.typed_tree.specs.IntExpressionTree.{IntExpressionTree}
-use Rattle.typed_tree.specs.BlockTree.{DeclareInteger}
+use Rattle.typed_tree.specs.BlockTree.{DeclareInt}
 use Rattle.typed_tree.specs.ProgramTree.{ProgramTree}
 use Rattle.algorithm_meaning.specs.declared.outcome.End.TheVariants.{TurnsOver, Fault}
 use Rattle.algorithm_meaning.specs.State.{GraphValue, StateValue}
@@ -25,7 +25,7 @@ of_some a b e = cc
 
 -- where the instructions of a `for` stand
 pub record StandsFor (code : List InstructionTree) (index number name back to : ℕ) (first end : IntExpressionTree) (d : Depth) : Type 0 where
-  pub at_first : slice_get code index ≡ Some (plain number d (Do (DeclareInteger name first)))
+  pub at_first : slice_get code index ≡ Some (plain number d (Do (DeclareInt name first)))
   pub at_end : slice_get code (index + 1) ≡ Some (loop_step number (depth_with_integer d) d (Enter name end))
   pub at_test : slice_get code (index + 2) ≡ Some (loop_step number (depth_in_loop d) d (UnlessBelow name to))
   pub at_turn : slice_get code (index + 3) ≡ Some (loop_step number (depth_in_loop d) d Turn)
@@ -117,7 +117,7 @@ module _ (p : ProgramTree) (g : GraphValue) (code : List InstructionTree) (index
   begun : (s m : StateValue) (o : Option ℤ) → forget_beyond d m ≡ s → int_value_in g.vertices first s ≡ o
       → Moves p g code (At index loops m) (go_on (index + 1) loops d (with_value o number s (λ n. Live (with_new_integer s n))))
   begun s m o same e =
-      moves_on p g code (takes p g code index loops m (plain number d (Do (DeclareInteger name first))) s stands.at_first same)
+      moves_on p g code (takes p g code index loops m (plain number d (Do (DeclareInt name first))) s stands.at_first same)
       (ap (λ (o : Option ℤ). go_on (index + 1) loops d (with_value o number s (λ n. Live (with_new_integer s n)))) e)
 
   with_bounds : (block : StateValue → Stand) (turns : ℕ) (s m : StateValue) (a b : Option ℤ) → IsWithin d e

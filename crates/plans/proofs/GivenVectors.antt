@@ -3,7 +3,7 @@ use Rattle.std.proofs.Common.{◌≡◌, ℕ, ◌==◌, ◌&&◌, ◌||◌, ℤ,
 use Rattle.std.specs.List.{list_all, list_any}
 use Rattle.std.proofs.lemmas.List.Folds.{list_all-append}
 use Rattle.apply_options.specs.declared.reduction.Reduction.{Reduction}
-use Rattle.typed_tree.specs.FunctionStatementTree.{FunctionStatementTree, DeclareInteger, DeclareCondition, SetInteger, SetCondition, ReduceInteger, SetEntry, ReduceEntry, If, IfElse}
+use Rattle.typed_tree.specs.FunctionStatementTree.{FunctionStatementTree, DeclareInt, DeclareBool, SetInt, SetBool, ReduceInt, SetEntry, ReduceEntry, If, IfElse}
 use Rattle.typed_tree.specs.FunctionStatementTree.{FunctionStatementsTree, NoStep, StepThen}
 use Rattle.algorithm_meaning.specs.State.{edge_scope}
 use Rattle.algorithm_meaning.specs.Value.{value, truth}
@@ -32,11 +32,11 @@ all_two P xs ys h k = list_all-append P xs ys ∙ (λ i. h i && k i)
 mutual
   -- a vector that is written is used
   writes_of_step : (P : ℕ → Bool) (step : FunctionStatementTree) → list_all P (step_uses step) ≡ true → list_all P (step_writes step) ≡ true
-  writes_of_step P (DeclareInteger name e) h = refl
-  writes_of_step P (DeclareCondition name c) h = refl
-  writes_of_step P (SetInteger slot e) h = refl
-  writes_of_step P (SetCondition slot c) h = refl
-  writes_of_step P (ReduceInteger slot reduction e) h = refl
+  writes_of_step P (DeclareInt name e) h = refl
+  writes_of_step P (DeclareBool name c) h = refl
+  writes_of_step P (SetInt slot e) h = refl
+  writes_of_step P (SetBool slot c) h = refl
+  writes_of_step P (ReduceInt slot reduction e) h = refl
   writes_of_step P (SetEntry vector e) h = (both_parts P (vector ∷ []) (integer_reads e) h).0
   writes_of_step P (ReduceEntry vector reduction e) h = (both_parts P (vector ∷ []) (integer_reads e) h).0
   writes_of_step P (If c body) h = writes_of_steps P body (both_parts P (condition_reads c) (steps_use body) h).1
@@ -61,11 +61,11 @@ module _ (P : ℕ → Bool) (sets : List SetBinding) (writing : _) (sets_nothing
     }) where
   mutual
     step_gives : (step : FunctionStatementTree) (w : WorkValue) → list_all P (step_writes step) ≡ true → AreFor P w.given → AreFor P (after_step writing sets step w).given
-    step_gives (DeclareInteger name e) w writes h = h
-    step_gives (DeclareCondition name c) w writes h = h
-    step_gives (SetInteger slot e) w writes h = h
-    step_gives (SetCondition slot c) w writes h = h
-    step_gives (ReduceInteger slot reduction e) w writes h = h
+    step_gives (DeclareInt name e) w writes h = h
+    step_gives (DeclareBool name c) w writes h = h
+    step_gives (SetInt slot e) w writes h = h
+    step_gives (SetBool slot c) w writes h = h
+    step_gives (ReduceInt slot reduction e) w writes h = h
     step_gives (SetEntry vector e) w writes h = subst (λ (z : WorkValue). AreFor P z.given) (sym (sets_nothing vector (value w.vectors sets w.scope e) w)) h
     step_gives (ReduceEntry vector reduction e) w writes h =
         let n = value w.vectors sets w.scope e in

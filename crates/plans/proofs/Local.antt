@@ -7,12 +7,12 @@ use Rattle.typed_tree.specs.IntExpressionTree as integer
 use Rattle.typed_tree.specs.IntExpressionTree.{IntExpressionTree}
 use Rattle.typed_tree.specs.BoolExpressionTree as condition
 use Rattle.typed_tree.specs.BoolExpressionTree.{BoolExpressionTree}
-use Rattle.typed_tree.specs.FunctionStatementTree.{FunctionStatementTree, DeclareInteger, DeclareCondition, SetInteger, SetCondition, ReduceInteger, SetEntry, ReduceEntry, If, IfElse}
+use Rattle.typed_tree.specs.FunctionStatementTree.{FunctionStatementTree, DeclareInt, DeclareBool, SetInt, SetBool, ReduceInt, SetEntry, ReduceEntry, If, IfElse}
 use Rattle.typed_tree.specs.FunctionStatementTree.{FunctionStatementsTree, NoStep, StepThen}
 use Rattle.algorithm_meaning.specs.Arithmetic.{negative, arithmetic, compared, connected, reduced}
 use Rattle.algorithm_meaning.specs.State.{ScopeValue, vertex_scope}
 use Rattle.algorithm_meaning.specs.Value.{vertex_at, entry, with_entry, reduce_at, value, truth}
-use Rattle.algorithm_meaning.specs.Statements.{new_integer, new_condition, set_integer, set_condition, reduce_integer, forget_new}
+use Rattle.algorithm_meaning.specs.Statements.{new_integer, new_condition, set_int, set_bool, reduce_int, forget_new}
 use Rattle.algorithm_meaning.specs.Function.{WorkValue, first_work, after_set, after_reduce, after_step, after_steps, after_block}
 use Rattle.algorithm_meaning.specs.VertexSets.{after_vertex}
 use Rattle.std.proofs.lemmas.Bool.{and_parts}
@@ -126,21 +126,21 @@ module _ (u : ℕ) (sets : List SetBinding) (writing : _) (sets_at_once : (vecto
 
   mutual
     pub step_alike : (step : FunctionStatementTree) (v w : WorkValue) → step_is_local step ≡ true → IsAlike u v w → IsAlike u (after_step writing sets step v) (after_step writing sets step w)
-    step_alike (DeclareInteger name e) v w local h =
+    step_alike (DeclareInt name e) v w local h =
         let x = value_alike u sets v w h e local in
         record { columns = h.columns; scope = λ i. new_integer (h.scope i) (x i); source = h.source; destination = h.destination }
-    step_alike (DeclareCondition name c) v w local h =
+    step_alike (DeclareBool name c) v w local h =
         let x = truth_alike u sets v w h c local in
         record { columns = h.columns; scope = λ i. new_condition (h.scope i) (x i); source = h.source; destination = h.destination }
-    step_alike (SetInteger slot e) v w local h =
+    step_alike (SetInt slot e) v w local h =
         let x = value_alike u sets v w h e local in
-        record { columns = h.columns; scope = λ i. set_integer (h.scope i) slot.index (x i); source = h.source; destination = h.destination }
-    step_alike (SetCondition slot c) v w local h =
+        record { columns = h.columns; scope = λ i. set_int (h.scope i) slot.index (x i); source = h.source; destination = h.destination }
+    step_alike (SetBool slot c) v w local h =
         let x = truth_alike u sets v w h c local in
-        record { columns = h.columns; scope = λ i. set_condition (h.scope i) slot.index (x i); source = h.source; destination = h.destination }
-    step_alike (ReduceInteger slot reduction e) v w local h =
+        record { columns = h.columns; scope = λ i. set_bool (h.scope i) slot.index (x i); source = h.source; destination = h.destination }
+    step_alike (ReduceInt slot reduction e) v w local h =
         let x = value_alike u sets v w h e local in
-        record { columns = h.columns; scope = λ i. reduce_integer (h.scope i) slot.index reduction (x i); source = h.source; destination = h.destination }
+        record { columns = h.columns; scope = λ i. reduce_int (h.scope i) slot.index reduction (x i); source = h.source; destination = h.destination }
     step_alike (SetEntry vector e) v w local h = set_alike v w h vector (value v.vectors sets v.scope e) (value w.vectors sets w.scope e) (value_alike u sets v w h e local)
     step_alike (ReduceEntry vector reduction e) v w local h = reduce_alike v w h vector reduction (value v.vectors sets v.scope e) (value w.vectors sets w.scope e) (value_alike u sets v w h e local)
     step_alike (If c body) v w local h =

@@ -1,7 +1,7 @@
 -- Functions that work on their own vertex leave other vertices alone.
 use Rattle.std.proofs.Common.{◌≡◌, ℕ, ◌==◌, ◌&&◌, ℤ, Bool, true, false, cond, List, Option, ap, ◌∙◌, refl}
 use Rattle.apply_options.specs.declared.reduction.Reduction.{Reduction}
-use Rattle.typed_tree.specs.FunctionStatementTree.{FunctionStatementTree, DeclareInteger, DeclareCondition, SetInteger, SetCondition, ReduceInteger, SetEntry, ReduceEntry, If, IfElse}
+use Rattle.typed_tree.specs.FunctionStatementTree.{FunctionStatementTree, DeclareInt, DeclareBool, SetInt, SetBool, ReduceInt, SetEntry, ReduceEntry, If, IfElse}
 use Rattle.typed_tree.specs.FunctionStatementTree.{FunctionStatementsTree, NoStep, StepThen}
 use Rattle.algorithm_meaning.specs.Arithmetic.{reduced}
 use Rattle.algorithm_meaning.specs.State.{vertex_scope}
@@ -26,11 +26,11 @@ module _ (u v : ℕ) (apart : (u == v) ≡ false) (sets : List SetBinding) (writ
 
   mutual
     after_step_elsewhere : (step : FunctionStatementTree) (w : WorkValue) → step_is_local step ≡ true → IsAlike u w w → column v (after_step writing sets step w).vectors ≡ column v w.vectors
-    after_step_elsewhere (DeclareInteger name e) w local h = refl
-    after_step_elsewhere (DeclareCondition name c) w local h = refl
-    after_step_elsewhere (SetInteger slot e) w local h = refl
-    after_step_elsewhere (SetCondition slot c) w local h = refl
-    after_step_elsewhere (ReduceInteger slot reduction e) w local h = refl
+    after_step_elsewhere (DeclareInt name e) w local h = refl
+    after_step_elsewhere (DeclareBool name c) w local h = refl
+    after_step_elsewhere (SetInt slot e) w local h = refl
+    after_step_elsewhere (SetBool slot c) w local h = refl
+    after_step_elsewhere (ReduceInt slot reduction e) w local h = refl
     after_step_elsewhere (SetEntry vector e) w local h =
         let x = value w.vectors sets w.scope e in
         ap (λ (z : WorkValue). column v z.vectors) (sets_at_once vector x w) ∙ written_elsewhere w h vector x

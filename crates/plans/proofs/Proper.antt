@@ -3,8 +3,8 @@ use Rattle.std.proofs.Common.{◌≡◌, ℕ, zero, suc, ◌+◌, ◌≤◌, ℤ
 use Rattle.std.proofs.lemmas.List.{length-append, length-set}
 use Rattle.typed_tree.specs.declared.statement.SetValue.{SetValue}
 use Rattle.typed_tree.specs.declared.statement.SetValue.TheVariants as set
-use Rattle.typed_tree.specs.BlockTree.{StatementKindTree, DeclareInteger, DeclareCondition, SetInteger, SetCondition, ReduceInteger, SetEntry, ReduceEntry, DeclareSet, AssignSet, AddVertex}
-use Rattle.typed_tree.specs.BlockTree.{PrintInteger, PrintCondition, ApplyVertex, ApplyEdges, If, IfElse, While, For}
+use Rattle.typed_tree.specs.BlockTree.{StatementKindTree, DeclareInt, DeclareBool, SetInt, SetBool, ReduceInt, SetEntry, ReduceEntry, DeclareSet, AssignSet, AddVertex}
+use Rattle.typed_tree.specs.BlockTree.{PrintInt, PrintBool, ApplyVertex, ApplyEdges, If, IfElse, While, For}
 use Rattle.typed_tree.specs.ProgramTree.{ProgramTree}
 use Rattle.algorithm_meaning.specs.State.{GraphValue, StateValue}
 use Rattle.algorithm_meaning.specs.Value.{members_of}
@@ -131,31 +131,31 @@ module _ (p : ProgramTree) (g : GraphValue) (number : ℕ) (d : Depth) (turns : 
   sets_here = ap (λ (d : Depth). d.sets) proper.deep
 
   pub alone-leaves : (a : StatementKindTree) → HasNoBlock a → Leaves d (depth_after a d) turns (after p g number a s)
-  alone-leaves (DeclareInteger name e) alone =
-      by_value (int_value_in g.vertices e s) d (depth_after (DeclareInteger name e) d) turns number s _ proper.deep (λ n. record {
+  alone-leaves (DeclareInt name e) alone =
+      by_value (int_value_in g.vertices e s) d (depth_after (DeclareInt name e) d) turns number s _ proper.deep (λ n. record {
         deep = λ i. record { integers = one_more s.scope.integers n d.integers integers_here i; conditions = conditions_here i; sets = sets_here i };
         sets = proper.sets;
         fewer = proper.fewer;
       })
-  alone-leaves (DeclareCondition name c) alone =
-      by_value (bool_value_in g.vertices c s) d (depth_after (DeclareCondition name c) d) turns number s _ proper.deep (λ b. record {
+  alone-leaves (DeclareBool name c) alone =
+      by_value (bool_value_in g.vertices c s) d (depth_after (DeclareBool name c) d) turns number s _ proper.deep (λ b. record {
         deep = λ i. record { integers = integers_here i; conditions = one_more s.scope.conditions b d.conditions conditions_here i; sets = sets_here i };
         sets = proper.sets;
         fewer = proper.fewer;
       })
-  alone-leaves (SetInteger slot e) alone =
+  alone-leaves (SetInt slot e) alone =
       by_value (int_value_in g.vertices e s) d d turns number s _ proper.deep (λ n. record {
         deep = λ i. record { integers = (length-set s.scope.integers slot.index n ∙ integers_here) i; conditions = conditions_here i; sets = sets_here i };
         sets = proper.sets;
         fewer = proper.fewer;
       })
-  alone-leaves (SetCondition slot c) alone =
+  alone-leaves (SetBool slot c) alone =
       by_value (bool_value_in g.vertices c s) d d turns number s _ proper.deep (λ b. record {
         deep = λ i. record { integers = integers_here i; conditions = (length-set s.scope.conditions slot.index b ∙ conditions_here) i; sets = sets_here i };
         sets = proper.sets;
         fewer = proper.fewer;
       })
-  alone-leaves (ReduceInteger slot reduction e) alone =
+  alone-leaves (ReduceInt slot reduction e) alone =
       by_value (int_value_in g.vertices e s) d d turns number s _ proper.deep (λ n.
       let x : ℤ = reduced reduction (slice_index_or s.scope.integers slot.index (pos 0)) n in record {
         deep = λ i. record { integers = (length-set s.scope.integers slot.index x ∙ integers_here) i; conditions = conditions_here i; sets = sets_here i };
@@ -176,10 +176,10 @@ module _ (p : ProgramTree) (g : GraphValue) (number : ℕ) (d : Depth) (turns : 
       by_value (vertex_in g.vertices e s) d d turns number s _ proper.deep (λ v.
       assigned-proper d turns s proper slot.index (inserted v (members_of (slice_get s.sets slot.index))) s.vectors
       (ascends_inserted v 0 (members_of (slice_get s.sets slot.index)) (omega arith) (proper.sets slot.index)))
-  alone-leaves (PrintInteger e) alone =
+  alone-leaves (PrintInt e) alone =
       by_value (int_value_in g.vertices e s) d d turns number s _ proper.deep (λ n.
       record { deep = proper.deep; sets = proper.sets; fewer = proper.fewer })
-  alone-leaves (PrintCondition c) alone =
+  alone-leaves (PrintBool c) alone =
       by_value (bool_value_in g.vertices c s) d d turns number s _ proper.deep (λ b.
       record { deep = proper.deep; sets = proper.sets; fewer = proper.fewer })
   alone-leaves (ApplyVertex set function) alone = record { deep = proper.deep; sets = proper.sets; fewer = proper.fewer }

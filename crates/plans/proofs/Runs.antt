@@ -1,8 +1,8 @@
 -- Statements and blocks on the machine.
 use Rattle.std.proofs.Common.{◌≡◌, ℕ, ◌+◌, Bool, true, false, List, [], ◌∷◌, ◌++◌, Option, Some, None, slice_get, ap, sym, ◌∙◌, refl, arith, subst}
 use Rattle.typed_tree.specs.BoolExpressionTree.{BoolExpressionTree}
-use Rattle.typed_tree.specs.BlockTree.{StatementKindTree, DeclareInteger, DeclareCondition, SetInteger, SetCondition, ReduceInteger, SetEntry, ReduceEntry, DeclareSet, AssignSet, AddVertex}
-use Rattle.typed_tree.specs.BlockTree.{PrintInteger, PrintCondition, ApplyVertex, ApplyEdges, If, IfElse, While, For, BlockTree, Empty, Then}
+use Rattle.typed_tree.specs.BlockTree.{StatementKindTree, DeclareInt, DeclareBool, SetInt, SetBool, ReduceInt, SetEntry, ReduceEntry, DeclareSet, AssignSet, AddVertex}
+use Rattle.typed_tree.specs.BlockTree.{PrintInt, PrintBool, ApplyVertex, ApplyEdges, If, IfElse, While, For, BlockTree, Empty, Then}
 use Rattle.typed_tree.specs.ProgramTree.{ProgramTree}
 use Rattle.algorithm_meaning.specs.State.{GraphValue, StateValue}
 use Rattle.algorithm_meaning.specs.Stand.{Stand, Live, Over, then_do, bool_value_in, with_value, choose}
@@ -170,19 +170,19 @@ module _ (p : ProgramTree) (g : GraphValue) (schedule : ScheduleTree) (code : Li
       pub action_runs : (a : StatementKindTree) (index number : ℕ) (label : Option ℕ) (d : Depth) (turns : ℕ) (loops : List LoopCounter) (m s : StateValue)
           → HasAt code index (plan p schedule index d number label a) → forget_beyond d m ≡ s → IsProper d turns s
           → Follows p g code (index + size p schedule d a) loops (depth_after a d) turns (after p g number a s) (At index loops m)
-      action_runs (DeclareInteger name e) index number label d turns loops m s at same q = single (DeclareInteger name e) tt index number label d turns loops m s at same q
-      action_runs (DeclareCondition name c) index number label d turns loops m s at same q = single (DeclareCondition name c) tt index number label d turns loops m s at same q
-      action_runs (SetInteger slot e) index number label d turns loops m s at same q = single (SetInteger slot e) tt index number label d turns loops m s at same q
-      action_runs (SetCondition slot c) index number label d turns loops m s at same q = single (SetCondition slot c) tt index number label d turns loops m s at same q
-      action_runs (ReduceInteger slot reduction e) index number label d turns loops m s at same q = single (ReduceInteger slot reduction e) tt index number label d turns loops m s at same q
+      action_runs (DeclareInt name e) index number label d turns loops m s at same q = single (DeclareInt name e) tt index number label d turns loops m s at same q
+      action_runs (DeclareBool name c) index number label d turns loops m s at same q = single (DeclareBool name c) tt index number label d turns loops m s at same q
+      action_runs (SetInt slot e) index number label d turns loops m s at same q = single (SetInt slot e) tt index number label d turns loops m s at same q
+      action_runs (SetBool slot c) index number label d turns loops m s at same q = single (SetBool slot c) tt index number label d turns loops m s at same q
+      action_runs (ReduceInt slot reduction e) index number label d turns loops m s at same q = single (ReduceInt slot reduction e) tt index number label d turns loops m s at same q
       action_runs (SetEntry vector subscript e) index number label d turns loops m s at same q = single (SetEntry vector subscript e) tt index number label d turns loops m s at same q
       action_runs (ReduceEntry vector subscript reduction e) index number label d turns loops m s at same q =
           single (ReduceEntry vector subscript reduction e) tt index number label d turns loops m s at same q
       action_runs (DeclareSet name set) index number label d turns loops m s at same q = single (DeclareSet name set) tt index number label d turns loops m s at same q
       action_runs (AssignSet slot set) index number label d turns loops m s at same q = single (AssignSet slot set) tt index number label d turns loops m s at same q
       action_runs (AddVertex slot e) index number label d turns loops m s at same q = single (AddVertex slot e) tt index number label d turns loops m s at same q
-      action_runs (PrintInteger e) index number label d turns loops m s at same q = single (PrintInteger e) tt index number label d turns loops m s at same q
-      action_runs (PrintCondition c) index number label d turns loops m s at same q = single (PrintCondition c) tt index number label d turns loops m s at same q
+      action_runs (PrintInt e) index number label d turns loops m s at same q = single (PrintInt e) tt index number label d turns loops m s at same q
+      action_runs (PrintBool c) index number label d turns loops m s at same q = single (PrintBool c) tt index number label d turns loops m s at same q
       action_runs (ApplyVertex set function) index number label d turns loops m s at same q = single (ApplyVertex set function) tt index number label d turns loops m s at same q
       action_runs (ApplyEdges ends function) index number label d turns loops m s at same q = single (ApplyEdges ends function) tt index number label d turns loops m s at same q
       action_runs (If c body) index number label d turns loops m s at same q =

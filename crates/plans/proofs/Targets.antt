@@ -1,7 +1,7 @@
 -- Where the instructions of a plan lead.
 use Rattle.std.proofs.Common.{◌≡◌, ℕ, ◌+◌, ◌<◌, Bool, true, false, List, [], ◌∷◌, ◌++◌, length, if◌then◌else◌, ◌⊎◌, inl, inr, Option, Some, None, slice_get, ap, sym, refl, arith, subst}
-use Rattle.typed_tree.specs.BlockTree.{StatementKindTree, DeclareInteger, DeclareCondition, SetInteger, SetCondition, ReduceInteger, SetEntry, ReduceEntry, DeclareSet, AssignSet, AddVertex}
-use Rattle.typed_tree.specs.BlockTree.{PrintInteger, PrintCondition, ApplyVertex, ApplyEdges, If, IfElse, While, For, BlockTree, Empty, Then}
+use Rattle.typed_tree.specs.BlockTree.{StatementKindTree, DeclareInt, DeclareBool, SetInt, SetBool, ReduceInt, SetEntry, ReduceEntry, DeclareSet, AssignSet, AddVertex}
+use Rattle.typed_tree.specs.BlockTree.{PrintInt, PrintBool, ApplyVertex, ApplyEdges, If, IfElse, While, For, BlockTree, Empty, Then}
 use Rattle.typed_tree.specs.ProgramTree.{ProgramTree}
 use Rattle.apply_options.specs.ScheduleTree.{ScheduleTree, apply_schedule_at}
 use Rattle.algorithm_meaning.specs.declared.state.Depth.{Depth}
@@ -116,18 +116,18 @@ module _ (p : ProgramTree) (schedule : ScheduleTree) (code : List InstructionTre
   mutual
     action_leads : (a : StatementKindTree) (index number : ℕ) (label : Option ℕ) (d : Depth) → HasAt code index (plan p schedule index d number label a)
         → AllLeadWell code index (plan p schedule index d number label a)
-    action_leads (DeclareInteger name e) index number label d at = (tt, tt)
-    action_leads (DeclareCondition name c) index number label d at = (tt, tt)
-    action_leads (SetInteger slot e) index number label d at = (tt, tt)
-    action_leads (SetCondition slot c) index number label d at = (tt, tt)
-    action_leads (ReduceInteger slot reduction e) index number label d at = (tt, tt)
+    action_leads (DeclareInt name e) index number label d at = (tt, tt)
+    action_leads (DeclareBool name c) index number label d at = (tt, tt)
+    action_leads (SetInt slot e) index number label d at = (tt, tt)
+    action_leads (SetBool slot c) index number label d at = (tt, tt)
+    action_leads (ReduceInt slot reduction e) index number label d at = (tt, tt)
     action_leads (SetEntry vector subscript e) index number label d at = (tt, tt)
     action_leads (ReduceEntry vector subscript reduction e) index number label d at = (tt, tt)
     action_leads (DeclareSet name set) index number label d at = (tt, tt)
     action_leads (AssignSet slot set) index number label d at = (tt, tt)
     action_leads (AddVertex slot e) index number label d at = (tt, tt)
-    action_leads (PrintInteger e) index number label d at = (tt, tt)
-    action_leads (PrintCondition c) index number label d at = (tt, tt)
+    action_leads (PrintInt e) index number label d at = (tt, tt)
+    action_leads (PrintBool c) index number label d at = (tt, tt)
     action_leads (ApplyVertex set function) index number label d at = (tt, tt)
     action_leads (ApplyEdges ends function) index number label d at = (tt, tt)
     action_leads (If c body) index number label d at = (omega arith, block_leads body false (index + 1) d at.1)

@@ -5,7 +5,7 @@ use Rattle.algorithm_meaning.specs.declared.outcome.End.TheVariants.{Finished}
 use Rattle.algorithm_meaning.specs.State.{GraphValue, StateValue}
 use Rattle.algorithm_meaning.specs.Value.{members_of}
 use Rattle.algorithm_meaning.specs.Stand.{Stand, Live, Over}
-use Rattle.algorithm_meaning.specs.Meaning.{after_all, opening, full_set, outcome_of, meaning}
+use Rattle.algorithm_meaning.specs.Meaning.{after_all, initial_state, full_set, outcome_of, meaning}
 use Rattle.apply_options.specs.ScheduleTree.{ScheduleTree}
 use Rattle.algorithm_meaning.specs.declared.state.Depth.{Depth}
 use Rattle.plans.specs.Instruction.{End, InstructionTree}
@@ -32,8 +32,8 @@ constant_sets_ascend g [] index = tt
 constant_sets_ascend g (x ∷ xs) zero = ascends_range 0 g.vertices
 constant_sets_ascend g (x ∷ xs) (suc n) = constant_sets_ascend g xs n
 
-opening-proper : (p : ProgramTree) (g : GraphValue) (turns : ℕ) → IsProper (main_depth p) turns (opening p g turns)
-opening-proper p g turns = record {
+initial_state-proper : (p : ProgramTree) (g : GraphValue) (turns : ℕ) → IsProper (main_depth p) turns (initial_state p g turns)
+initial_state-proper p g turns = record {
   deep = λ i. record { integers = 0; conditions = 0; sets = length-all_vertices g p.sets i };
   sets = constant_sets_ascend g p.sets;
   fewer = omega arith;
@@ -49,16 +49,16 @@ comes_to_end p g code (Live s) to d turns c at f =
 comes_to_end p g code (Over s end) to d turns c at f = f
 
 reaches_end : (p : ProgramTree) (schedule : ScheduleTree) (g : GraphValue) (turns : ℕ)
-    → Reaches p g (plan_of p schedule) (first_configuration (opening p g turns)) (finish (after_all p g p.main (opening p g turns)))
+    → Reaches p g (plan_of p schedule) (first_configuration (initial_state p g turns)) (finish (after_all p g p.main (initial_state p g turns)))
 reaches_end p schedule g turns =
     let code = plan_of p schedule in
     let d = main_depth p in
-    let s = opening p g turns in
+    let s = initial_state p g turns in
     let main = plan_all p schedule 0 d false p.main in
     let to = size_all p schedule d false p.main in
     let last = plain 0 (depth_after_all p.main d) End ∷ [] in
     let stands = has_all code [] in
-    let q = opening-proper p g turns in
+    let q = initial_state-proper p g turns in
     comes_to_end p g code (after_all p g p.main s) (0 + to) (depth_after_all p.main d) turns (At 0 [] s)
     (has_behind code 0 to (0 + to) main last (length-plan_all p schedule p.main 0 d false) refl stands).0
     (block_runs p g schedule code (company_is_good p g schedule) p.main false 0 d turns [] s s (has_front code 0 main last stands) (forgotten-all d s q.deep) q)
@@ -72,12 +72,12 @@ steps_lower p schedule g = step_falls p g (plan_of p schedule) (plan_leads p sch
 
 pub runs_as : (p : ProgramTree) (schedule : ScheduleTree) (g : GraphValue) (turns : ℕ) → RunsAs p g turns (plan_of p schedule)
 runs_as p schedule g turns =
-    let t = takes_steps p g (plan_of p schedule) (steps_lower p schedule g) (first_configuration (opening p g turns)) (finish (after_all p g p.main (opening p g turns)))
+    let t = takes_steps p g (plan_of p schedule) (steps_lower p schedule g) (first_configuration (initial_state p g turns)) (finish (after_all p g p.main (initial_state p g turns)))
     (reaches_end p schedule g turns) in
     record {
       count = t.count;
       within = t.within;
       ends = t.ends;
-      means = subst (λ (c : Configuration). Shows p turns c (meaning p g turns)) (sym t.ends) (shows_meaning p turns (after_all p g p.main (opening p g turns)));
+      means = subst (λ (c : Configuration). Shows p turns c (meaning p g turns)) (sym t.ends) (shows_meaning p turns (after_all p g p.main (initial_state p g turns)));
       goes_on = t.goes_on;
     }

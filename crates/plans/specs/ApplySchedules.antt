@@ -6,7 +6,7 @@ use Rattle.plans.specs.Instruction.{OperationTree, Do, ApplyEdgesTogether, Instr
 use Rattle.plans.specs.Fusing.{EdgeApplyTree, edge_apply_of}
 
 abbrev mutual
-  -- the statement of this number and this label stands in the block, or in a statement of it
+  -- the statement of this number and this label is in the block, or in a statement of it
   pub IsStatementOf : BlockTree → (number : ℕ) → (label : Option ℕ) → StatementKindTree → Type 0
   IsStatementOf Empty number label action = ⊥
   IsStatementOf (Then n l a rest) number label action =

@@ -12,9 +12,9 @@ abbrev pub is_turn : Option InstructionTree → Bool
 is_turn None = false
 is_turn (Some i) = uses_turn i.operation
 
--- The rank of an index in a plan of n instructions, by what stands there and whether `turn` stands after it: each step but a turn leads
+-- The rank of an index in a plan of n instructions, by what is there and whether `turn` is after it: each step but a turn leads
 -- to a lower rank. An index has a lower rank than those before it. The head of a loop, to which the loop's last instruction jumps, has a
--- rank between this instruction and what stands after the loop.
+-- rank between this instruction and what is after the loop.
 abbrev pub rank_by : (count index : ℕ) → OperationTree → (before_turn : Bool) → ℕ
 rank_by count index (Unless c to) true = 2 * (count - to) + 1
 rank_by count index (UnlessBelow name to) true = 2 * (count - to) + 1
@@ -28,7 +28,7 @@ rank_where plan index (Some i) = rank_by (length plan) index i.operation (is_tur
 abbrev pub rank : List InstructionTree → (index : ℕ) → ℕ
 rank plan index = rank_where plan index (slice_get plan index)
 
--- no run that stands so takes more steps than these: for each turn that is left as many as there are ranks, and those before the next turn
+-- no run in this state takes more steps than these: for each turn that is left as many as there are ranks, and those before the next turn
 abbrev pub most_steps : List InstructionTree → Configuration → ℕ
 most_steps plan (At index loops s) = s.turns * (2 * length plan + 2) + rank plan index + 1
 most_steps plan (Ended s end) = 0

@@ -1,4 +1,4 @@
--- Programs whose plans are told.
+-- Programs whose plans are written out.
 use Rattle.std.specs.Prelude.{◌≡◌, ℕ, pos, List, [], ◌∷◌, map, Some, None}
 use Rattle.apply_options.specs.declared.reduction.Reduction.TheVariants.{Plus}
 use Rattle.typed_tree.specs.declared.expression.ComparisonOperator.TheVariants.{Less, NotEqual}
@@ -11,7 +11,7 @@ use Rattle.typed_tree.specs.IntExpressionTree.{IntExpressionTree, Number, EntryA
 use Rattle.typed_tree.specs.BoolExpressionTree.{BoolExpressionTree, Compare}
 use Rattle.typed_tree.specs.FunctionStatementTree as step
 use Rattle.typed_tree.specs.FunctionStatementTree.{FunctionTree}
-use Rattle.typed_tree.specs.BlockTree.{DeclareInteger, SetEntry, DeclareSet, AssignSet, AddVertex, PrintInteger, ApplyVertex, ApplyEdges, If, IfElse, While}
+use Rattle.typed_tree.specs.BlockTree.{DeclareInt, SetEntry, DeclareSet, AssignSet, AddVertex, PrintInt, ApplyVertex, ApplyEdges, If, IfElse, While}
 use Rattle.typed_tree.specs.BlockTree.{For, BlockTree, Empty, Then}
 use Rattle.typed_tree.specs.ProgramTree.{ProgramTree}
 use Rattle.apply_options.specs.declared.apply_schedule.Fused.TheVariants.{With, Into}
@@ -27,7 +27,7 @@ operations plan = map (λ i. i.operation) plan
 abbrev pub with_main : ProgramTree → BlockTree → ProgramTree
 with_main p main = record p { main = main }
 
--- a breadth-first search from vertex 0: the frontier goes on as long as it has members
+-- a breadth-first search from vertex 0: the frontier continues as long as it has members
 abbrev pub breadth_first : (frontier : VarRef) → ApplyEnds → (visit parent : ℕ) → BlockTree
 breadth_first frontier ends visit parent =
     Then 1 None (DeclareSet frontier.name set.Empty)
@@ -54,26 +54,26 @@ HasPlanOfSearch p s frontier ends visit parent =
 abbrev pub loop_with_choice : (i : ℕ) → (first end : IntExpressionTree) → BoolExpressionTree → (e f : IntExpressionTree) → BlockTree
 loop_with_choice i first end c e f =
     Then 1 None (For i first end
-    (Then 2 None (IfElse c (Then 3 None (PrintInteger e) Empty) (Then 4 None (PrintInteger f) Empty))
+    (Then 2 None (IfElse c (Then 3 None (PrintInt e) Empty) (Then 4 None (PrintInt f) Empty))
     Empty))
-    (Then 5 None (If c (Then 6 None (PrintInteger f) Empty))
+    (Then 5 None (If c (Then 6 None (PrintInt f) Empty))
     Empty)
 
 abbrev pub HasPlanOfLoop : ProgramTree → ScheduleTree → (i : ℕ) → (first end : IntExpressionTree) → BoolExpressionTree → (e f : IntExpressionTree) → Type 0
 HasPlanOfLoop p s i first end c e f =
     operations (plan_of (with_main p (loop_with_choice i first end c e f)) s)
-    ≡ Do (DeclareInteger i first)
+    ≡ Do (DeclareInt i first)
     ∷ Enter i end
     ∷ UnlessBelow i 10
     ∷ Turn
     ∷ Unless c 7
-    ∷ Do (PrintInteger e)
+    ∷ Do (PrintInt e)
     ∷ Jump 8
-    ∷ Do (PrintInteger f)
+    ∷ Do (PrintInt f)
     ∷ Advance i
     ∷ Jump 2
     ∷ Unless c 12
-    ∷ Do (PrintInteger f)
+    ∷ Do (PrintInt f)
     ∷ End
     ∷ []
 
@@ -104,7 +104,7 @@ HasPlanOfVertexPair p name =
 
 -- the filter reads vector 0, and the edge function at an index writes the vector at this index
 abbrev pub reads_first : FunctionTree
-reads_first = record { name = 0; steps = step.StepThen (step.DeclareCondition 1 (Compare Less (EntryAt 0 Source) (Number (pos 1)))) step.NoStep }
+reads_first = record { name = 0; steps = step.StepThen (step.DeclareBool 1 (Compare Less (EntryAt 0 Source) (Number (pos 1)))) step.NoStep }
 
 abbrev pub adds_to : ℕ → FunctionTree
 adds_to vector = record { name = 0; steps = step.StepThen (step.ReduceEntry vector Plus (Number (pos 1))) step.NoStep }

@@ -26,9 +26,9 @@ pub data OperationTree : Type 0 where
   -- two edge applies between the same ends, and two vertex applies to the same set
   ApplyEdgesTogether : ApplyEnds → (first second : EdgePartTree) → OperationTree
   ApplyVerticesTogether : (set : VarRef) → (first second : ℕ) → OperationTree
-  -- goes on at the index unless the condition holds
+  -- continues at the index unless the condition holds
   Unless : BoolExpressionTree → (to : ℕ) → OperationTree
-  -- `for` whose name, the last variable, has its first value: the second bound, which stands after the name
+  -- `for` whose name, the last variable, has its first value: the second bound, which is after the name
   Enter : (name : ℕ) → (end : IntExpressionTree) → OperationTree
   -- leaves the loop for the index unless the name is below the bound
   UnlessBelow : (name to : ℕ) → OperationTree

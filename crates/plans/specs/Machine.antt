@@ -100,7 +100,7 @@ act p g Turn number shown index loops s = after_turn s.turns (index + 1) loops s
 act p g (Jump to) number shown index loops s = At to loops s
 act p g End number shown index loops s = Ended (forget_beyond shown s) Finished
 
--- the instruction at an index; after the last one the run has come to the end
+-- the instruction at an index; after the last one the run has reached its end
 abbrev pub act_at : ProgramTree → GraphValue → Option InstructionTree → (index : ℕ) → List LoopCounter → StateValue → Configuration
 act_at p g None index loops s = Ended s Finished
 act_at p g (Some i) index loops s = act p g i.operation i.number i.shown index loops (forget_beyond i.keep s)
@@ -118,7 +118,7 @@ steps p g plan (suc n) c = steps p g plan n (step p g plan c)
 abbrev pub first_configuration : StateValue → Configuration
 first_configuration s = At 0 [] s
 
--- where a run stands at its end: one that goes on has come to the end of main
+-- where a run is at its end: one that continues has reached the end of main
 abbrev pub finish : Stand → Configuration
 finish (Live s) = Ended s Finished
 finish (Over s end) = Ended s end

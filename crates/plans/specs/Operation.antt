@@ -4,15 +4,15 @@ use Rattle.std.specs.Option.{unwrap_or}
 use Rattle.typed_tree.specs.declared.statement.ApplyEnds.{ApplyEnds}
 use Rattle.typed_tree.specs.IntExpressionTree.{IntExpressionTree}
 use Rattle.typed_tree.specs.BoolExpressionTree.{BoolExpressionTree}
-use Rattle.typed_tree.specs.BlockTree.{StatementKindTree, DeclareInteger, DeclareCondition, SetInteger, SetCondition, ReduceInteger, SetEntry, ReduceEntry}
-use Rattle.typed_tree.specs.BlockTree.{DeclareSet, AssignSet, AddVertex, PrintInteger, PrintCondition, ApplyVertex}
+use Rattle.typed_tree.specs.BlockTree.{StatementKindTree, DeclareInt, DeclareBool, SetInt, SetBool, ReduceInt, SetEntry, ReduceEntry}
+use Rattle.typed_tree.specs.BlockTree.{DeclareSet, AssignSet, AddVertex, PrintInt, PrintBool, ApplyVertex}
 use Rattle.typed_tree.specs.declared.statement.SetValue.{SetValue}
 use Rattle.typed_tree.specs.ProgramTree.{ProgramTree}
 use Rattle.typed_tree.specs.declared.statement.SetValue.TheVariants as set
 use Rattle.algorithm_meaning.specs.declared.state.Depth.{Depth}
 use Rattle.algorithm_meaning.specs.Function.{steps_of}
 use Rattle.kernels.specs.declared.expression.ExpressionKernel.{ExpressionKernel}
-use Rattle.kernels.specs.Kernels.{IsIntegerKernel, IsConditionKernel, IsEdgeKernel, IsFilterKernel}
+use Rattle.kernels.specs.Kernels.{IsIntKernel, IsBoolKernel, IsEdgeKernel, IsFilterKernel}
 use Rattle.kernels.specs.Meaning.{IsVertexCode}
 use Rattle.plans.specs.Instruction.{OperationTree, Do, ApplyEdgesTogether, ApplyVerticesTogether, Unless, Enter, UnlessBelow, Advance, Turn, Jump, End}
 use Rattle.plans.specs.Instruction.{InstructionTree, ResultTree, Dropped, Declared, Assigned, EdgePartTree}
@@ -37,13 +37,13 @@ pub record IsFor (d : Depth) (k : ExpressionKernel) : Type 0 where
 pub record HasInteger (d : Depth) (k : ExpressionKernel) (make : IntExpressionTree → OperationTree) (o : OperationTree) : Type 0 where
   pub tree : IntExpressionTree
   pub is : o ≡ make tree
-  pub kernel : IsIntegerKernel k tree
+  pub kernel : IsIntKernel k tree
   pub visible : IsFor d k
 
 pub record HasCondition (d : Depth) (k : ExpressionKernel) (make : BoolExpressionTree → OperationTree) (o : OperationTree) : Type 0 where
   pub tree : BoolExpressionTree
   pub is : o ≡ make tree
-  pub kernel : IsConditionKernel k tree
+  pub kernel : IsBoolKernel k tree
   pub visible : IsFor d k
 
 -- of an index and a value
@@ -52,8 +52,8 @@ pub record HasEntry (d : Depth) (index value : ExpressionKernel) (make : IntExpr
   pub index_tree : IntExpressionTree
   pub value_tree : IntExpressionTree
   pub is : o ≡ make index_tree value_tree
-  pub index_kernel : IsIntegerKernel index index_tree
-  pub value_kernel : IsIntegerKernel value value_tree
+  pub index_kernel : IsIntKernel index index_tree
+  pub value_kernel : IsIntKernel value value_tree
   pub index_visible : IsFor d index
   pub value_visible : IsFor d value
 
@@ -84,18 +84,18 @@ set_value (Filter slot function) = set.Filter slot function
 
 -- the operation is this one, where so much is kept and so much is shown
 abbrev pub IsOperation : (keep shown : Depth) → PlanOperation → OperationTree → Type 0
-IsOperation keep shown (op.DeclareInteger name k) o = HasInteger keep k (λ e. Do (DeclareInteger name e)) o
-IsOperation keep shown (op.DeclareCondition name k) o = HasCondition keep k (λ c. Do (DeclareCondition name c)) o
-IsOperation keep shown (op.SetInteger slot k) o = HasInteger keep k (λ e. Do (SetInteger slot e)) o
-IsOperation keep shown (op.SetCondition slot k) o = HasCondition keep k (λ c. Do (SetCondition slot c)) o
-IsOperation keep shown (op.ReduceInteger slot reduction k) o = HasInteger keep k (λ e. Do (ReduceInteger slot reduction e)) o
+IsOperation keep shown (op.DeclareInt name k) o = HasInteger keep k (λ e. Do (DeclareInt name e)) o
+IsOperation keep shown (op.DeclareBool name k) o = HasCondition keep k (λ c. Do (DeclareBool name c)) o
+IsOperation keep shown (op.SetInt slot k) o = HasInteger keep k (λ e. Do (SetInt slot e)) o
+IsOperation keep shown (op.SetBool slot k) o = HasCondition keep k (λ c. Do (SetBool slot c)) o
+IsOperation keep shown (op.ReduceInt slot reduction k) o = HasInteger keep k (λ e. Do (ReduceInt slot reduction e)) o
 IsOperation keep shown (op.SetEntry vector index k) o = HasEntry keep index k (λ i e. Do (SetEntry vector i e)) o
 IsOperation keep shown (op.ReduceEntry vector index reduction k) o = HasEntry keep index k (λ i e. Do (ReduceEntry vector i reduction e)) o
 IsOperation keep shown (op.DeclareSet name members) o = o ≡ Do (DeclareSet name (set_value members))
 IsOperation keep shown (op.AssignSet slot members) o = o ≡ Do (AssignSet slot (set_value members))
 IsOperation keep shown (op.AddVertex slot k) o = HasInteger keep k (λ e. Do (AddVertex slot e)) o
-IsOperation keep shown (op.PrintInteger k) o = HasInteger keep k (λ e. Do (PrintInteger e)) o
-IsOperation keep shown (op.PrintCondition k) o = HasCondition keep k (λ c. Do (PrintCondition c)) o
+IsOperation keep shown (op.PrintInt k) o = HasInteger keep k (λ e. Do (PrintInt e)) o
+IsOperation keep shown (op.PrintBool k) o = HasCondition keep k (λ c. Do (PrintBool c)) o
 IsOperation keep shown (op.ApplyVertices set first None) o = o ≡ Do (ApplyVertex set first)
 IsOperation keep shown (op.ApplyVertices set first (Some second)) o = o ≡ ApplyVerticesTogether set first second
 IsOperation keep shown (op.ApplyEdges ends first second) o = ApplyEdgesOf ends first second o

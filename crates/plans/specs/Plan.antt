@@ -1,7 +1,7 @@
 -- The plan of a program, and of which program a plan is.
 use Rattle.std.specs.Prelude.{[], ℕ, ◌+◌, Bool, false, List, ◌∷◌, ◌++◌, length, Option, ◌≡◌}
 use Rattle.apply_options.specs.ScheduleTree.{ScheduleTree, apply_schedule_at, no_apply_schedule}
-use Rattle.typed_tree.specs.BlockTree.{StatementKindTree, DeclareInteger, DeclareCondition, DeclareSet, If, IfElse, While, For, BlockTree, Empty, Then}
+use Rattle.typed_tree.specs.BlockTree.{StatementKindTree, DeclareInt, DeclareBool, DeclareSet, If, IfElse, While, For, BlockTree, Empty, Then}
 use Rattle.typed_tree.specs.ProgramTree.{ProgramTree}
 use Rattle.typed_tree.specs.declared.program.Vector.{Vector}
 use Rattle.algorithm_meaning.specs.declared.state.Depth.{Depth}
@@ -31,8 +31,8 @@ main_depth p = record { integers = 0; conditions = 0; sets = length p.sets }
 
 -- after a statement of main, and after all of a block
 abbrev pub depth_after : StatementKindTree → Depth → Depth
-depth_after (DeclareInteger name e) d = depth_with_integer d
-depth_after (DeclareCondition name c) d = depth_with_condition d
+depth_after (DeclareInt name e) d = depth_with_integer d
+depth_after (DeclareBool name c) d = depth_with_condition d
 depth_after (DeclareSet name value) d = depth_with_set d
 depth_after _ d = d
 
@@ -80,7 +80,7 @@ abbrev mutual
       + size_all p s (depth_after action d) (takes_next (fusion_role_of p s d is_done label action rest)) rest
 
 abbrev mutual
-  -- the instructions of a statement, of which the first stands at this index
+  -- the instructions of a statement, of which the first is at this index
   pub plan : ProgramTree → ScheduleTree → (index : ℕ) → Depth → (number : ℕ) → Option ℕ → StatementKindTree → List InstructionTree
   plan p s index d number label (If c body) =
       plain number d (Unless c (index + 1 + size_all p s d false body))
@@ -96,7 +96,7 @@ abbrev mutual
       ∷ (plan_all p s (index + 2) d false body
       ++ plain number d (Jump index) ∷ [])
   plan p s index d number label (For name first end body) =
-      plain number d (Do (DeclareInteger name first))
+      plain number d (Do (DeclareInt name first))
       ∷ loop_step number (depth_with_integer d) d (Enter name end)
       ∷ loop_step number (depth_in_loop d) d (UnlessBelow name (index + 4 + size_all p s (depth_in_loop d) false body + 2))
       ∷ loop_step number (depth_in_loop d) d Turn

@@ -13,9 +13,9 @@ ghost use Rattle.plans.specs.Fused.{FusedFit};
 ghost use Rattle.plans.specs.RunLaws.{RunsAs, StepsLowerTheBound};
 ghost use Rattle.plans.specs.Plan.{plan_of};
 
-/// For every program, schedule, graph and bound of turns the plan does what the program does: run from the opening
+/// For every program, schedule, graph and bound of turns the plan does what the program does: run from the initial
 /// state it ends after some number of steps, and there it has the state and the end of the program's own run and
-/// shows what the program means. Before that it always has a next step: it stands at an instruction of the plan. The
+/// shows what the program means. Before that it always has a next step: it is at an instruction of the plan. The
 /// number of steps is no more than `most_steps` says, about twice the plan's length for each turn and once more.
 pub fn plans_do_what_programs_do()
     ensures { (p : ProgramTree) (s : ScheduleTree) (g : GraphValue) (turns : ℕ) → RunsAs p g turns (plan_of p s) }

@@ -6,7 +6,7 @@
 //! `specs/Machine.antt` the machine that runs a plan, one instruction a step.
 //!
 //! The law (`specs/RunLaws.antt`): for every program, schedule, graph and bound of turns the machine ends after some number
-//! of steps, and there it stands where the program's own run stands and shows what the program means; before that it
+//! of steps, and there it is where the program's own run stands and shows what the program means; before that it
 //! always has a next step. `specs/Bound.antt` has a bound on the steps that are left, which each step lowers: the measure
 //! of a loop that runs a plan. The law needs no premise, neither that the program is checked nor that the schedule is accepted:
 //! two applies are done together only where they fit, a `for` keeps its value and its bound beside the variables, and

@@ -8,23 +8,23 @@ use typed_tree::{ApplyEnds, VarRef};
 /// What an instruction does. A name is the index of one in the plan's names, a vector or a function its index in its list,
 /// and `to` the index of an instruction.
 pub enum PlanOperation {
-    DeclareInteger {
+    DeclareInt {
         name: usize,
         value: ExpressionKernel,
     },
-    DeclareCondition {
+    DeclareBool {
         name: usize,
         value: ExpressionKernel,
     },
-    SetInteger {
+    SetInt {
         slot: VarRef,
         value: ExpressionKernel,
     },
-    SetCondition {
+    SetBool {
         slot: VarRef,
         value: ExpressionKernel,
     },
-    ReduceInteger {
+    ReduceInt {
         slot: VarRef,
         reduction: Reduction,
         value: ExpressionKernel,
@@ -55,10 +55,10 @@ pub enum PlanOperation {
         slot: VarRef,
         vertex: ExpressionKernel,
     },
-    PrintInteger {
+    PrintInt {
         value: ExpressionKernel,
     },
-    PrintCondition {
+    PrintBool {
         value: ExpressionKernel,
     },
     /// One vertex function, or two, at each member of a set.
@@ -73,7 +73,7 @@ pub enum PlanOperation {
         first: EdgePart,
         second: Option<EdgePart>,
     },
-    /// Goes on at the index unless the test holds.
+    /// Continues at the index unless the test holds.
     Unless {
         test: ExpressionKernel,
         to: usize,
@@ -88,7 +88,7 @@ pub enum PlanOperation {
         name: usize,
         to: usize,
     },
-    /// The innermost `for` goes on to its next value.
+    /// The innermost `for` continues to its next value.
     Advance {
         name: usize,
     },
@@ -103,11 +103,11 @@ pub enum PlanOperation {
 impl Drop for PlanOperation {
     fn drop(self) {
         match self {
-            PlanOperation::DeclareInteger { name: _, value: _ }
-            | PlanOperation::DeclareCondition { name: _, value: _ }
-            | PlanOperation::SetInteger { slot: _, value: _ }
-            | PlanOperation::SetCondition { slot: _, value: _ }
-            | PlanOperation::ReduceInteger {
+            PlanOperation::DeclareInt { name: _, value: _ }
+            | PlanOperation::DeclareBool { name: _, value: _ }
+            | PlanOperation::SetInt { slot: _, value: _ }
+            | PlanOperation::SetBool { slot: _, value: _ }
+            | PlanOperation::ReduceInt {
                 slot: _,
                 reduction: _,
                 value: _,
@@ -132,8 +132,8 @@ impl Drop for PlanOperation {
                 members: _,
             }
             | PlanOperation::AddVertex { slot: _, vertex: _ }
-            | PlanOperation::PrintInteger { value: _ }
-            | PlanOperation::PrintCondition { value: _ }
+            | PlanOperation::PrintInt { value: _ }
+            | PlanOperation::PrintBool { value: _ }
             | PlanOperation::ApplyVertices {
                 set: _,
                 first: _,

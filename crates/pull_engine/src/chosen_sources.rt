@@ -13,7 +13,7 @@ use edge_fold::{EntryWith, NeighbourEntries, reduce_entries};
 use kernels::PAIRS;
 use vertex_blocks::Neighbours;
 
-/// Sources of a packed list, by the indices at which they stand in it.
+/// Sources of a packed list, by the indices at which they are in it.
 #[derive(Drop)]
 struct ChosenSources<'a, 'b> {
     list: &'a Neighbours<'b>,

@@ -38,7 +38,7 @@ impl DestinationWords<'_> {
     }
 }
 
-/// The word of a block, and 0 behind the last one.
+/// The word of a block, and 0 after the last one.
 #[inline(always)]
 fn word_at(words: &[u64], block: u32) -> u64
     ensures { (v : ℕ) → v / 64 ≡ block → in_word (64 * block) result v ≡ is_set words.now v }

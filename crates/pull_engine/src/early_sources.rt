@@ -25,7 +25,7 @@ pub fn one_source_decides()
         → reduced_with r (λ _. number) old sources ≡ reduced_once r (λ _. number) old (first_of sources) }
 {}
 
-/// The first source of a packed list whose bit is set. Sources are read one by one, so what stands after it is not.
+/// The first source of a packed list whose bit is set. Sources are read one by one, so what is after it is not.
 #[inline(always)]
 pub(crate) fn first_packed(sources: Neighbours<'_>, from: Option<&[u64]>) -> Option<u32>
     ensures { result ≡ first_of (filter (passes_words from.entry) (keys_of sources.entry)) }
@@ -41,7 +41,7 @@ pub(crate) fn first_packed(sources: Neighbours<'_>, from: Option<&[u64]>) -> Opt
     None
 }
 
-/// The last source of a packed list whose bit is set. Sources are read downward, so what stands before it is not.
+/// The last source of a packed list whose bit is set. Sources are read downward, so what is before it is not.
 #[inline(always)]
 pub(crate) fn last_packed(sources: Neighbours<'_>, from: Option<&[u64]>) -> Option<u32>
     ensures { result ≡ last_source (filter (passes_words from.entry) (keys_of sources.entry)) }

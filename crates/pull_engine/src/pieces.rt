@@ -77,7 +77,7 @@ impl PullWork<'_> {
         Ok(changes)
     }
 
-    /// The first vertex of a piece, and the one behind its last.
+    /// The first vertex of a piece, and the one after its last.
     fn vertices_of(&self, piece: usize) -> (u32, u32)
         requires some { 0 < piece }
         requires inside { piece ≤ length self.now.partition }

@@ -27,7 +27,7 @@ pub record Order : Type 0 where
   pub chunk_size : ℕ
   pub batches : List (List Entry)
 
--- a line `add`, `del` or `grow` adds an entry to those that are pending, and `commit` makes a batch of them; no other line may stand here
+-- a line `add`, `del` or `grow` adds an entry to those that are pending, and `commit` makes a batch of them; no other line may be here
 abbrev pub after_change : Option Command → List Entry → (List Entry → Option (List (List Entry))) → Option (List (List Entry))
 after_change (Some (command.Add source destination weight)) pending rest = rest (pending ++ entry.Add source destination weight ∷ [])
 after_change (Some (command.Remove source destination)) pending rest = rest (pending ++ entry.Remove source destination ∷ [])

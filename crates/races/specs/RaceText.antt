@@ -58,7 +58,7 @@ race_text race =
 abbrev pub TakesBeginning : List ℕ → Written → Written → Type 0
 TakesBeginning text before after = (written : List ℕ) × (rest : List ℕ) × (after.bytes_written ≡ before.bytes_written ++ written) × (written ++ rest ≡ text)
 
--- all of the text was taken, or a beginning; the writer failed in this call where that is told, and else it did not
+-- all of the text was taken, or a beginning; the writer failed in this call if that is reported, and else it did not
 abbrev pub Writes : {A : Type 0} → List ℕ → Written → Written → Result A SendError → Type 0
 Writes text before after (Ok x) = (after.bytes_written ≡ before.bytes_written ++ text) × (after.failures ≡ before.failures)
 Writes text before after (Err NoMemory) = TakesBeginning text before after × (after.failures ≡ before.failures)

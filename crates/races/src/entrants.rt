@@ -83,7 +83,7 @@ impl<'a, J: Naming> Entrant<'a, J> {
 }
 
 impl<'a, J: Naming> EarlyRun<'a, J> {
-    /// Lets the program's reader learn what was told, and runs the program again.
+    /// Lets the program's reader learn what was announced, and runs the program again.
     pub(crate) fn run_again<T: Threads + Sync>(
         self,
         rt: &T,

@@ -8,7 +8,7 @@
 //! program means on the fold of a history. The late one's begins with the early one's and with that of all commits.
 //! [`write_race`] writes its text (`specs/RaceText.antt`).
 //!
-//! Which version an early run is on, no contract says; nor that a thread runs or that a wait ends. The crate `driver` stands on
+//! Which version an early run is on, no contract says; nor that a thread runs or that a wait ends. The crate `driver` depends on
 //! this one.
 #![tactic(auto)]
 

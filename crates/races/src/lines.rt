@@ -9,7 +9,7 @@ use std::marker::Model;
 /// The lines of a text that are not read yet. A contract sees them as their list.
 #[derive(Drop)]
 pub(crate) struct ScriptLines<'a> {
-    // What stands after the line feed of the last line that was read, or `None` after the last line.
+    // What is after the line feed of the last line that was read, or `None` after the last line.
     rest: Option<&'a [u8]>,
 }
 

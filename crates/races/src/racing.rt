@@ -28,12 +28,12 @@ struct PlannedRuns<'a> {
 }
 
 /// Opens the graph of a script and commits its batches, in order, on one thread, while for each program another runs it on the
-/// newest version, by n workers, 1 to 64, for at most n turns. A batch that is refused (111, 123) is told by its
+/// newest version, by n workers, 1 to 64, for at most n turns. A batch that is refused (111, 123) is reported by its
 /// reply, and the next is committed. Once all batches have their replies, each program runs again, on the newest version then.
 ///
 /// Errors: `NotOpened` where the graph is not opened, for its vertices (111), for its chunks (103) or for more than 63
 /// programs (124), or memory runs out for it (900). Else `NotRun` for the first program that is not run (411, 125, 900), or
-/// where memory runs out.
+/// if memory runs out.
 pub fn race<T: Threads + Wait + Sync>(
     rt: &T,
     alloc: Global,

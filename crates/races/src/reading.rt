@@ -24,7 +24,7 @@ pub struct RaceScript {
 }
 
 /// Reads a text as the script of a race. Its lines are those of scripts: first `vertices`, and then only `add`, `del`,
-/// `grow` and `commit`. Empty lines are passed over, and what stands after the last `commit` is in no batch. The numbers are not looked at.
+/// `grow` and `commit`. Empty lines are passed over, and what is after the last `commit` is in no batch. The numbers are not looked at.
 ///
 /// Errors: `NoRace` for any other text, else `NoMemory`.
 pub fn race_script(alloc: Global, text: &[u8]) -> Result<RaceScript, RaceScriptError>

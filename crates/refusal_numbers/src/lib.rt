@@ -71,10 +71,10 @@ pub const NOT_REDUCTION: u16 = 224;
 /// An edge function reduces one vector in two ways.
 pub const MIXED_REDUCTIONS: u16 = 225;
 
-/// A vector is read or written at another vertex than may stand there, or an index in `main` holds an entry.
+/// A vector is read or written at another vertex than may be there, or an index in `main` holds an entry.
 pub const WRONG_INDEX: u16 = 226;
 
-/// `print` stands in another function than `main`.
+/// `print` is in another function than `main`.
 pub const PRINT_OUTSIDE_MAIN: u16 = 227;
 
 /// There is no function `main` without parameters and result.
@@ -88,7 +88,7 @@ pub const BAD_LABEL: u16 = 229;
 /// A schedule names a label that the program does not have.
 pub const UNKNOWN_LABEL: u16 = 301;
 
-/// A label stands before no apply, or before a vertex apply where an edge apply is wanted.
+/// A label is before no apply, or before a vertex apply where an edge apply is wanted.
 pub const NO_APPLY: u16 = 302;
 
 /// A call has too few or too many arguments, or a value that its table does not have.
@@ -97,7 +97,7 @@ pub const BAD_ARGUMENT: u16 = 303;
 /// A label has a value already, or is fused already, or with itself.
 pub const GIVEN_TWICE: u16 = 304;
 
-/// The second of two fused statements does not stand right behind the first in one block.
+/// The second of two fused statements is not right after the first in one block.
 pub const NOT_ADJACENT: u16 = 305;
 
 /// Two fused applies are of other kinds, sets, sources or destinations.
@@ -125,7 +125,7 @@ pub const NO_JOB: u16 = 413;
 
 // scripts
 
-/// A line is no command that may stand there.
+/// A line is no command that may be there.
 pub const BAD_LINE: u16 = 801;
 
 // the machine

@@ -1,4 +1,4 @@
-//! Guesses why a text is outside the grammar, by what stands at the fault and before it.
+//! Guesses why a text is outside the grammar, by what is at the fault and before it.
 
 use crate::words::{begins_with, ends_with};
 
@@ -42,7 +42,7 @@ pub(crate) fn cause_of_byte(behind: &[u8]) -> Option<&'static str> {
     None
 }
 
-// The cause where a sign that the language does not have, or has elsewhere, stands at the fault.
+// The cause where a sign that the language does not have, or has elsewhere, is at the fault.
 fn cause_of_sign(before: &[u8], shown: &[u8], behind: &[u8]) -> Option<&'static str> {
     if begins_with(behind, b"{") {
         return Some("blocks have no braces: a body goes up to its `end`");

@@ -40,7 +40,7 @@ fn of_constant(text: &[u8]) -> &'static str {
     }
 }
 
-// What stands after the first colon of a text, and white bytes.
+// What is after the first colon of a text, and white bytes.
 fn declared_type(text: &[u8]) -> &[u8] {
     let mut colon = false;
     'bytes: for i in 0..text.len() {
@@ -70,7 +70,7 @@ fn of_name(text: &[u8]) -> &'static str {
     }
 }
 
-// What stands after the name that a text begins with, and spaces.
+// What is after the name that a text begins with, and spaces.
 fn sign_after_name(text: &[u8]) -> &[u8] {
     'bytes: for i in 0..text.len() {
         if !text[i].is_ascii_alphanumeric() && text[i] != b'_' && text[i] != b' ' {

@@ -1,4 +1,4 @@
-//! The lines that are told after a refusal.
+//! The lines that are written after a refusal.
 
 use crate::calls::call_form;
 use crate::cause::cause_of_byte;
@@ -20,7 +20,7 @@ const MOST_BEFORE: usize = 80;
 const MOST_SHOWN: usize = 120;
 
 /// The lines that show where in the text of the file of this name the byte at this offset stands, say what the number of a
-/// refusal means, and what to do. A number by which no text is refused has no meaning, and then the place alone is told.
+/// refusal means, and what to do. A number by which no text is refused has no meaning, and then the place alone is written.
 /// The only error is out of memory.
 pub fn explanation(
     alloc: Global,
@@ -67,7 +67,7 @@ fn rule_of(
 }
 
 /// The lines that show where in the program's text of the file of this name the statement of `main` with this number stands, and
-/// what a fault of a run at it means. Where no such statement is found, that alone is told. The only error is out of memory.
+/// what a fault of a run at it means. Where no such statement is found, that alone is written. The only error is out of memory.
 pub fn fault_explanation(
     alloc: Global,
     file: &str,
@@ -90,7 +90,7 @@ pub fn fault_explanation(
 }
 
 // Adds the file, the line and the column, what is shown of the source line, and a caret below the byte. A byte that is no ASCII
-// stands as it is.
+// is as it is.
 fn push_place(lines: &mut Vec<u8>, file: &str, text: &[u8], at: usize) -> Result<(), AllocError> {
     let place = place_of(text, at);
     lines.extend_from_slice(b" --> ")?;

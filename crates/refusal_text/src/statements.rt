@@ -1,4 +1,4 @@
-//! Where the statements of `main` stand in a text.
+//! Where the statements of `main` are in a text.
 
 use lexer::{Keyword, LexError, Symbol, Token, TokenKind, tokens};
 use std::alloc::{AllocError, Global};

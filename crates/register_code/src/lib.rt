@@ -14,7 +14,7 @@
 //! - [`code_of_integer`] and [`code_of_condition`]: the code of an expression, whose run leaves its value in the first
 //!   register (`integer_runs` and `condition_runs` in `proofs/Runs.antt`).
 //!
-//! [`room_of`] and [`with_gives`] tell how many registers code needs. The kernels run code, over blocks, and stand on this
+//! [`room_of`] and [`with_gives`] tell how many registers code needs. The kernels run code, over blocks, and depend on this
 //! crate.
 #![tactic(auto)]
 

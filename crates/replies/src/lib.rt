@@ -6,7 +6,7 @@
 //! Each call that sends is proved to take its whole text, after all that was sent before, and where it fails a
 //! beginning of that (`specs/Sending.antt`).
 //!
-//! The crate of scripts stands on it.
+//! The crate of scripts depends on it.
 #![tactic(auto)]
 
 mod line_reply;

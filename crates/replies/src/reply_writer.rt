@@ -113,7 +113,7 @@ impl<'a, W: Drain> ReplyWriter<'a, W> {
     }
 }
 
-/// Appends the text of a reply of one line. After `AllocError` a part of it may stand there.
+/// Appends the text of a reply of one line. After `AllocError` a part of it may be there.
 fn push_line(out: &mut Vec<u8>, reply: LineReply) -> Result<(), AllocError>
     ensures { OnOk result (out.new.items ≡ out.old.items ++ line_text reply) }
 {

@@ -75,7 +75,7 @@ found_request (Some p) = command_named p.0 p.1
 abbrev pub race_script : Rule
 race_script = record (new_rule (codes "SCRIPT")) { required = true }
 
--- the names of the programs' files after `race`, one or more, which options may stand between
+-- the names of the programs' files after `race`, one or more, which options may be between
 abbrev pub race_programs : Rule
 race_programs = record (new_rule (codes "PROGRAM")) {
   required = true;

@@ -1,4 +1,4 @@
--- The forms of a command line, and the words that each stands for.
+-- The forms of a command line, and the words that each means.
 use Rattle.std.specs.Prelude.{◌≡◌, ℕ, false, true, List, [], ◌∷◌, ◌++◌, None, codes, if◌then◌else◌}
 use Rattle.std.specs.List.{AllByRecursion}
 use Rattle.std.specs.Str.{bytes_eq}

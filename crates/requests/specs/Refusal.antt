@@ -6,7 +6,7 @@ use Rattle.clap.specs.declared.error.kind.ErrorKind.TheVariants as fault
 use Rattle.requests.specs.declared.asked.RequestError.{RequestError}
 use Rattle.requests.specs.declared.asked.RequestError.TheVariants as request
 
--- a fault of this kind is told with its own text, unless memory ran out
+-- a fault of this kind is reported with its own text, unless memory ran out
 abbrev pub of_fault : FaultKind → Fault → RequestError
 of_fault fault.OutOfMemory e = request.NoMemory
 of_fault _ e = request.Fault e

@@ -38,7 +38,7 @@ pub enum Request<'a> {
     },
 }
 
-/// Why a command line is not done. The text is what standard error is told.
+/// Why a command line is not done. The text is what is written to standard error.
 #[derive(Debug, Drop, Error)]
 pub enum RequestError {
     #[error("refused 900\n")]
@@ -51,7 +51,7 @@ pub enum RequestError {
 }
 
 impl RequestError {
-    /// The number by which users know it: 900 where memory ran out, or `None` where the words are no request.
+    /// The number by which users know it: 900 if memory ran out, or `None` where the words are no request.
     pub fn number(&self) -> Option<u16>
         ensures { result ≡ number_of self.now }
     {

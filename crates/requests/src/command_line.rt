@@ -1,4 +1,4 @@
-//! What clap is told: the commands, their files and their options, and the texts of help.
+//! What is declared to clap: the commands, their files and their options, and the texts of help.
 
 ghost use Rattle.std.specs.Prelude.{◌≡◌, IfOk, codes, false};
 ghost use Rattle.clap.specs.Words.{App, app_of, rule_of, with_rule, with_subcommand};

@@ -1,11 +1,11 @@
-//! The command line of `gsnap`: what its words ask for.
+//! The command line of `gsnap`: the request that its words are.
 //!
-//! [`request`] reads the words by `clap` and answers a [`Request`], or a [`RequestError`] with clap's own text. Its contract says
-//! both ways when there is a request: exactly where the words are without a fault of clap, but for memory; and which one it is:
-//! the one that a definition has for the words (`specs/Asked.antt`). The definition is read off what clap is told of the commands.
+//! [`request`] parses the words with `clap`. It gives a [`Request`], or a [`RequestError`] with clap's own text. Its contract says
+//! when it gives a request: if and only if clap finds no fault in the words, unless memory runs out. `specs/Asked.antt` defines the
+//! request of each list of words, by the commands that are declared to clap.
 //!
-//! The other functions are laws in the words of the usage lines: which words are which request. They do nothing when called. The
-//! crate `driver` stands on this one.
+//! The other functions are laws: which words are which request, in terms of the usage lines. They do nothing when called. The
+//! crate `driver` depends on this one.
 #![tactic(auto)]
 
 mod asked;

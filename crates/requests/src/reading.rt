@@ -21,7 +21,7 @@ pub const DEFAULT_TURNS: u64 = 1_000_000;
 
 /// Reads the words after the program's name. No words are `Input`, `check FILE` is `Check`, `plan FILE` is `Plan`,
 /// `script SCRIPT [PROGRAM..]` is `Script`, and `race SCRIPT PROGRAM.. [--workers W] [--turns T]` is `Race`, with the options
-/// anywhere after `race`. A `--` may stand before files whose names begin with a hyphen.
+/// anywhere after `race`. A `--` may be before files whose names begin with a hyphen.
 ///
 /// Errors: `Fault`, with the text to show, at other words and where help is asked for, and `NoMemory`.
 pub fn request<'a>(alloc: Global, words: &'a [&'a str]) -> Result<Request<'a>, RequestError>

@@ -10,7 +10,7 @@ use Rattle.typed_tree.specs.FunctionStatementTree.{FunctionStatementsTree}
 use Rattle.algorithm_meaning.specs.Arithmetic.{wrapped}
 use Rattle.algorithm_meaning.specs.State.{GraphValue, StateValue}
 use Rattle.algorithm_meaning.specs.Value.{with_entry}
-use Rattle.algorithm_meaning.specs.Meaning.{opening_entries, out_degree}
+use Rattle.algorithm_meaning.specs.Meaning.{initial_entries, out_degree}
 use Rattle.algorithm_meaning.specs.VertexSets.{after_vertex, after_vertices}
 use Rattle.kernels.specs.RegisterInstruction.{RegisterInstruction}
 use Rattle.kernels.specs.RegisterInstruction.TheVariants.{SetEntry}
@@ -74,14 +74,14 @@ pub after_apply : (count n : ℕ) (m : StateValue) (sizes : List ℤ) (is : List
     → HaveLength count n vectors → HaveLength count n (after_vertices steps m.sets vertices vectors)
 after_apply count n m sizes is steps has code vertices vectors are = lengths_after_vertices m sizes is steps has code vertices vectors ∙ are
 
-opened_length : (g : GraphValue) (b : InitialValue) → length (opening_entries g b) ≡ g.vertices
+opened_length : (g : GraphValue) (b : InitialValue) → length (initial_entries g b) ≡ g.vertices
 opened_length g (Number n) = length-replicate g.vertices n
 opened_length g OutDegrees = length-map-range_with_len (λ v. wrapped (pos (out_degree v g.edges))) 0 g.vertices
 
-pub opened_lengths : (g : GraphValue) (vs : List Vector) → HaveLength (length vs) g.vertices (map (λ (v : Vector). opening_entries g v.beginning) vs)
+pub opened_lengths : (g : GraphValue) (vs : List Vector) → HaveLength (length vs) g.vertices (map (λ (v : Vector). initial_entries g v.beginning) vs)
 opened_lengths g [] = refl
 opened_lengths g (v ∷ vs) =
-    ap (λ (k : ℕ). k ∷ lengths (map (λ (v : Vector). opening_entries g v.beginning) vs)) (opened_length g v.beginning)
+    ap (λ (k : ℕ). k ∷ lengths (map (λ (v : Vector). initial_entries g v.beginning) vs)) (opened_length g v.beginning)
     ∙ ap (λ (ks : List ℕ). g.vertices ∷ ks) (opened_lengths g vs)
 
 pub count : (n k : ℕ) (vectors : List (List ℤ)) → HaveLength k n vectors → length vectors ≡ k

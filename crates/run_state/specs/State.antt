@@ -4,7 +4,7 @@ use Rattle.weighted_edges.specs.Edge.{unit_weight}
 use Rattle.typed_tree.specs.declared.program.Vector.{Vector}
 use Rattle.algorithm_meaning.specs.State.{GraphValue, StateValue, main_scope}
 use Rattle.algorithm_meaning.specs.Value.{members_of}
-use Rattle.algorithm_meaning.specs.Meaning.{full_set, opening_entries}
+use Rattle.algorithm_meaning.specs.Meaning.{full_set, initial_entries}
 use Rattle.flat_snapshot.specs.Digraph.{Digraph}
 use Rattle.vectors.specs.Vectors.{IsGrouping}
 use Rattle.vertex_sets.specs.VertexSet.{IsAscendingBelow}
@@ -33,7 +33,7 @@ graph_value d = record { vertices = d.vertices; edges = d.edges }
 
 -- what the vectors begin with
 abbrev pub opened_vectors : Digraph → List Vector → List (List ℤ)
-opened_vectors d vectors = map (λ v. opening_entries (graph_value d) v.beginning) vectors
+opened_vectors d vectors = map (λ v. initial_entries (graph_value d) v.beginning) vectors
 
 -- the state before the first statement, with these vectors and constant sets
 abbrev pub opened : Digraph → List Vector → (sets : List ℕ) → (turns : ℕ) → StateValue

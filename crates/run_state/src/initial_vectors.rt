@@ -1,7 +1,7 @@
 //! Initial vectors: the entries before the first statement.
 ghost use Rattle.std.specs.Prelude.{◌≡◌, pos, map, IfOk};
 ghost use Rattle.algorithm_meaning.specs.Arithmetic.{wrapped};
-ghost use Rattle.algorithm_meaning.specs.Meaning.{opening_entries, out_degree};
+ghost use Rattle.algorithm_meaning.specs.Meaning.{initial_entries, out_degree};
 ghost use Rattle.algorithm_meaning.specs.VertexSets.{all_below};
 ghost use Rattle.run_state.specs.State.{AreGroups, graph_value, opened_vectors};
 
@@ -51,7 +51,7 @@ fn open_array(
     beginning: InitialValue,
     graph: &Flat,
 ) -> Result<Sequence<i64>, AllocError>
-    ensures { IfOk result (λ v. v ≡ opening_entries (graph_value graph.now) beginning) }
+    ensures { IfOk result (λ v. v ≡ initial_entries (graph_value graph.now) beginning) }
 {
     match beginning {
         InitialValue::Number(n) => {

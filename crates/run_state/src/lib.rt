@@ -9,7 +9,7 @@
 //! [`RunView`] that [`State::view`] lends, [`State::write`] writes what it found, and [`State::update_sets`] gives the
 //! sets their new values.
 //!
-//! The runner stands on it.
+//! The runner depends on it.
 #![tactic(auto)]
 
 mod filtering;

@@ -5,14 +5,14 @@ ghost use Rattle.typed_tree.specs.IntExpressionTree.{IntExpressionTree};
 ghost use Rattle.typed_tree.specs.BoolExpressionTree.{BoolExpressionTree};
 ghost use Rattle.typed_tree.specs.ProgramTree.{ProgramTree};
 ghost use Rattle.typed_tree.specs.FunctionStatementTree.{FunctionStatementsTree};
-ghost use Rattle.algorithm_meaning.specs.Statements.{with_vectors, condition_line, integer_line, with_text, new_condition, reduce_integer, set_condition, set_integer, with_new_integer, with_scope};
+ghost use Rattle.algorithm_meaning.specs.Statements.{with_vectors, condition_line, integer_line, with_text, new_condition, reduce_int, set_bool, set_int, with_new_integer, with_scope};
 ghost use Rattle.algorithm_meaning.specs.Meaning.{shown};
 ghost use Rattle.algorithm_meaning.specs.Stand.{bool_value_in, int_value_in, vertex_in, vertex_number};
 ghost use Rattle.algorithm_meaning.specs.State.{GraphValue, StateValue};
 ghost use Rattle.algorithm_meaning.specs.Value.{members_of, reduce_at, with_entry};
 ghost use Rattle.algorithm_meaning.specs.VertexSets.{after_vertices, after_assign_set, after_declare_set, inserted, members_for, with_members, with_new_set};
 ghost use Rattle.kernels.specs.Meaning.{IsVertexCode};
-ghost use Rattle.kernels.specs.Kernels.{IsConditionKernel, IsIntegerKernel, IsMainState, HasRegisters, IsFilterKernel};
+ghost use Rattle.kernels.specs.Kernels.{IsBoolKernel, IsIntKernel, IsMainState, HasRegisters, IsFilterKernel};
 ghost use Rattle.kernels.specs.RegisterCounts.{RegisterCounts};
 ghost use Rattle.algorithm_meaning.specs.Loop.{depth_of, forget_beyond};
 ghost use Rattle.vectors.specs.Changes.{with_all_changes};
@@ -172,7 +172,7 @@ impl State {
         registers: &mut Registers,
     ) -> Result<Option<i64>, AllocError>
         requires { IsFor depth kernel.now }
-        ensures { IfOk result (λ n. (e : IntExpressionTree) → IsIntegerKernel kernel.now e
+        ensures { IfOk result (λ n. (e : IntExpressionTree) → IsIntKernel kernel.now e
             → n ≡ int_value_in self.now.vertices e (forget_beyond depth self.now.state)) }
     {
         kernel.eval_int(self.main_state(depth), registers)
@@ -186,7 +186,7 @@ impl State {
         registers: &mut Registers,
     ) -> Result<Option<bool>, AllocError>
         requires { IsFor depth kernel.now }
-        ensures { IfOk result (λ b. (c : BoolExpressionTree) → IsConditionKernel kernel.now c
+        ensures { IfOk result (λ b. (c : BoolExpressionTree) → IsBoolKernel kernel.now c
             → b ≡ bool_value_in self.now.vertices c (forget_beyond depth self.now.state)) }
     {
         kernel.eval_bool(self.main_state(depth), registers)
@@ -201,7 +201,7 @@ impl State {
         registers: &mut Registers,
     ) -> Result<Option<u32>, AllocError>
         requires { IsFor depth kernel.now }
-        ensures vertex { IfOk result (λ v. (e : IntExpressionTree) → IsIntegerKernel kernel.now e
+        ensures vertex { IfOk result (λ v. (e : IntExpressionTree) → IsIntKernel kernel.now e
             → v ≡ vertex_in self.now.vertices e (forget_beyond depth self.now.state)) }
         ensures below { IfOk result (λ v. IfSome v (λ v. v < self.now.vertices)) }
     {
@@ -229,7 +229,7 @@ impl State {
     }
 
     /// A new `int` variable. The only error is out of memory, and then nothing is changed.
-    pub fn declare_integer(&mut self, n: i64) -> Result<(), AllocError>
+    pub fn declare_int(&mut self, n: i64) -> Result<(), AllocError>
         ensures ok { OnOk result (self.new ≡ with_state self.old (with_new_integer self.old.state n)) }
         ensures err { OnErr result (self.new ≡ self.old) }
     {
@@ -249,7 +249,7 @@ impl State {
     }
 
     /// A new `bool` variable. The only error is out of memory, and then nothing is changed.
-    pub fn declare_condition(&mut self, b: bool) -> Result<(), AllocError>
+    pub fn declare_bool(&mut self, b: bool) -> Result<(), AllocError>
         ensures ok { OnOk result (self.new ≡ with_state self.old (with_scope self.old.state (new_condition self.old.state.scope b))) }
         ensures err { OnErr result (self.new ≡ self.old) }
     {
@@ -258,8 +258,8 @@ impl State {
     }
 
     /// Sets the `int` variable at an index; where there is none nothing is changed.
-    pub fn set_integer(&mut self, index: usize, n: i64)
-        ensures { self.new ≡ with_state self.old (with_scope self.old.state (set_integer self.old.state.scope index n)) }
+    pub fn set_int(&mut self, index: usize, n: i64)
+        ensures { self.new ≡ with_state self.old (with_scope self.old.state (set_int self.old.state.scope index n)) }
     {
         if index < self.integers.len() {
             self.integers[index] = n;
@@ -267,8 +267,8 @@ impl State {
     }
 
     /// Sets the `bool` variable at an index; where there is none nothing is changed.
-    pub fn set_condition(&mut self, index: usize, b: bool)
-        ensures { self.new ≡ with_state self.old (with_scope self.old.state (set_condition self.old.state.scope index b)) }
+    pub fn set_bool(&mut self, index: usize, b: bool)
+        ensures { self.new ≡ with_state self.old (with_scope self.old.state (set_bool self.old.state.scope index b)) }
     {
         if index < self.conditions.len() {
             self.conditions[index] = b;
@@ -276,8 +276,8 @@ impl State {
     }
 
     /// Reduces the `int` variable at an index with a number; where there is none nothing is changed.
-    pub fn reduce_integer(&mut self, index: usize, reduction: Reduction, n: i64)
-        ensures { self.new ≡ with_state self.old (with_scope self.old.state (reduce_integer self.old.state.scope index reduction n)) }
+    pub fn reduce_int(&mut self, index: usize, reduction: Reduction, n: i64)
+        ensures { self.new ≡ with_state self.old (with_scope self.old.state (reduce_int self.old.state.scope index reduction n)) }
     {
         if index < self.integers.len() {
             self.integers[index] = reduce(reduction, self.integers[index], n);
@@ -301,7 +301,7 @@ impl State {
     }
 
     /// Prints a number. The only error is out of memory, and then nothing is changed.
-    pub fn print_integer(&mut self, n: i64) -> Result<(), AllocError>
+    pub fn print_int(&mut self, n: i64) -> Result<(), AllocError>
         ensures ok { OnOk result (self.new ≡ with_state self.old (with_text self.old.state (integer_line n))) }
         ensures err { OnErr result (self.new ≡ self.old) }
     {
@@ -309,7 +309,7 @@ impl State {
     }
 
     /// Prints a truth value. The only error is out of memory, and then nothing is changed.
-    pub fn print_condition(&mut self, b: bool) -> Result<(), AllocError>
+    pub fn print_bool(&mut self, b: bool) -> Result<(), AllocError>
         ensures ok { OnOk result (self.new ≡ with_state self.old (with_text self.old.state (condition_line b))) }
         ensures err { OnErr result (self.new ≡ self.old) }
     {

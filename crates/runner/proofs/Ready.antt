@@ -22,18 +22,18 @@ use Rattle.runner.proofs.Partners.{partner_at}
 
 -- an operation of a tree is ready
 ready : (keep shown : Depth) (o : PlanOperation) (t : OperationTree) → IsOperation keep shown o t → IsReady keep shown o
-ready keep shown (op.DeclareInteger name k) t is = is.visible
-ready keep shown (op.DeclareCondition name k) t is = is.visible
-ready keep shown (op.SetInteger slot k) t is = is.visible
-ready keep shown (op.SetCondition slot k) t is = is.visible
-ready keep shown (op.ReduceInteger slot reduction k) t is = is.visible
+ready keep shown (op.DeclareInt name k) t is = is.visible
+ready keep shown (op.DeclareBool name k) t is = is.visible
+ready keep shown (op.SetInt slot k) t is = is.visible
+ready keep shown (op.SetBool slot k) t is = is.visible
+ready keep shown (op.ReduceInt slot reduction k) t is = is.visible
 ready keep shown (op.SetEntry vector index k) t is = (is.index_visible, is.value_visible)
 ready keep shown (op.ReduceEntry vector index reduction k) t is = (is.index_visible, is.value_visible)
 ready keep shown (op.DeclareSet name members) t is = tt
 ready keep shown (op.AssignSet slot members) t is = tt
 ready keep shown (op.AddVertex slot k) t is = is.visible
-ready keep shown (op.PrintInteger k) t is = is.visible
-ready keep shown (op.PrintCondition k) t is = is.visible
+ready keep shown (op.PrintInt k) t is = is.visible
+ready keep shown (op.PrintBool k) t is = is.visible
 ready keep shown (op.ApplyVertices set first second) t is = tt
 ready keep shown (op.ApplyEdges ends first second) t is = tt
 ready keep shown (op.Unless k to) t is = is.visible
@@ -49,18 +49,18 @@ for_once : (d : Depth) (k : ExpressionKernel) (x y : IsFor d k) → x ≡ y
 for_once d k x y = λ i. record { integers = ℕ_set _ _ x.integers y.integers i; conditions = ℕ_set _ _ x.conditions y.conditions i }
 
 ready_once : (keep shown : Depth) (o : PlanOperation) (x y : IsReady keep shown o) → x ≡ y
-ready_once keep shown (op.DeclareInteger name k) x y = for_once keep k x y
-ready_once keep shown (op.DeclareCondition name k) x y = for_once keep k x y
-ready_once keep shown (op.SetInteger slot k) x y = for_once keep k x y
-ready_once keep shown (op.SetCondition slot k) x y = for_once keep k x y
-ready_once keep shown (op.ReduceInteger slot reduction k) x y = for_once keep k x y
+ready_once keep shown (op.DeclareInt name k) x y = for_once keep k x y
+ready_once keep shown (op.DeclareBool name k) x y = for_once keep k x y
+ready_once keep shown (op.SetInt slot k) x y = for_once keep k x y
+ready_once keep shown (op.SetBool slot k) x y = for_once keep k x y
+ready_once keep shown (op.ReduceInt slot reduction k) x y = for_once keep k x y
 ready_once keep shown (op.SetEntry vector index k) x y = λ i. (for_once keep index x.0 y.0 i, for_once keep k x.1 y.1 i)
 ready_once keep shown (op.ReduceEntry vector index reduction k) x y = λ i. (for_once keep index x.0 y.0 i, for_once keep k x.1 y.1 i)
 ready_once keep shown (op.DeclareSet name members) x y = refl
 ready_once keep shown (op.AssignSet slot members) x y = refl
 ready_once keep shown (op.AddVertex slot k) x y = for_once keep k x y
-ready_once keep shown (op.PrintInteger k) x y = for_once keep k x y
-ready_once keep shown (op.PrintCondition k) x y = for_once keep k x y
+ready_once keep shown (op.PrintInt k) x y = for_once keep k x y
+ready_once keep shown (op.PrintBool k) x y = for_once keep k x y
 ready_once keep shown (op.ApplyVertices set first second) x y = refl
 ready_once keep shown (op.ApplyEdges ends first second) x y = refl
 ready_once keep shown (op.Unless k to) x y = for_once keep k x y

@@ -8,7 +8,7 @@ use Rattle.typed_tree.specs.ProgramTree.{ProgramTree}
 use Rattle.algorithm_meaning.specs.declared.outcome.End.{End as Ending}
 use Rattle.algorithm_meaning.specs.declared.outcome.Outcome.{Outcome}
 use Rattle.algorithm_meaning.specs.State.{GraphValue, StateValue}
-use Rattle.algorithm_meaning.specs.Meaning.{opening, meaning}
+use Rattle.algorithm_meaning.specs.Meaning.{initial_state, meaning}
 use Rattle.apply_options.specs.ScheduleTree.{ScheduleTree}
 use Rattle.plans.specs.Instruction.{InstructionTree}
 use Rattle.plans.specs.Machine.{Configuration, At, Ended, step, steps, first_configuration}
@@ -55,12 +55,12 @@ shows_later p g plan turns n (Ended s end) o is = subst (λ d. Shows p turns d o
 
 -- a run that has ended has done all its steps
 all_done : (p : ProgramTree) (s : ScheduleTree) (g : GraphValue) (turns k : ℕ) (r : RunsAs p g turns (plan_of p s))
-    → HasEnded (steps p g (plan_of p s) k (first_configuration (opening p g turns))) → (k < r.count) ⊎ (r.count ≤ k)
-    → Shows p turns (steps p g (plan_of p s) k (first_configuration (opening p g turns))) (meaning p g turns)
+    → HasEnded (steps p g (plan_of p s) k (first_configuration (initial_state p g turns))) → (k < r.count) ⊎ (r.count ≤ k)
+    → Shows p turns (steps p g (plan_of p s) k (first_configuration (initial_state p g turns))) (meaning p g turns)
 all_done p s g turns k r end (inl early) =
-    absurd (no_end (plan_of p s) (steps p g (plan_of p s) k (first_configuration (opening p g turns))) end (r.goes_on k early))
+    absurd (no_end (plan_of p s) (steps p g (plan_of p s) k (first_configuration (initial_state p g turns))) end (r.goes_on k early))
 all_done p s g turns k r end (inr late) =
-    let first = first_configuration (opening p g turns) in
+    let first = first_configuration (initial_state p g turns) in
     let plan = plan_of p s in
     let same : r.count + (k - r.count) ≡ k = omega (arith, late) in
     subst (λ (n : ℕ). Shows p turns (steps p g plan n first) (meaning p g turns)) same
@@ -69,8 +69,8 @@ all_done p s g turns k r end (inr late) =
 
 -- a run of a plan that has ended shows what the program means, after however many steps
 pub shows_the_meaning : (p : ProgramTree) (s : ScheduleTree) (g : GraphValue) (turns k : ℕ)
-    → HasEnded (steps p g (plan_of p s) k (first_configuration (opening p g turns)))
-    → Shows p turns (steps p g (plan_of p s) k (first_configuration (opening p g turns))) (meaning p g turns)
+    → HasEnded (steps p g (plan_of p s) k (first_configuration (initial_state p g turns)))
+    → Shows p turns (steps p g (plan_of p s) k (first_configuration (initial_state p g turns))) (meaning p g turns)
 shows_the_meaning p s g turns k end =
     let r = runs_as p s g turns in
     all_done p s g turns k r end (cases_lt k r.count)
@@ -78,14 +78,14 @@ shows_the_meaning p s g turns k end =
 -- a run gets there after some number of steps
 pub record IsReached (p : ProgramTree) (g : GraphValue) (plan : List InstructionTree) (turns : ℕ) (c : Configuration) : Type 0 where
   pub count : ℕ
-  pub is : c ≡ steps p g plan count (first_configuration (opening p g turns))
+  pub is : c ≡ steps p g plan count (first_configuration (initial_state p g turns))
 
-pub reached_first : (p : ProgramTree) (g : GraphValue) (plan : List InstructionTree) (turns : ℕ) (c : Configuration) → c ≡ first_configuration (opening p g turns) → IsReached p g plan turns c
+pub reached_first : (p : ProgramTree) (g : GraphValue) (plan : List InstructionTree) (turns : ℕ) (c : Configuration) → c ≡ first_configuration (initial_state p g turns) → IsReached p g plan turns c
 reached_first p g plan turns c is = record { count = 0; is = is }
 
 pub reached_next : (p : ProgramTree) (g : GraphValue) (plan : List InstructionTree) (turns : ℕ) (c next : Configuration) → IsReached p g plan turns c → next ≡ step p g plan c
     → IsReached p g plan turns next
-reached_next p g plan turns c next r is = record { count = suc r.count; is = is ∙ ap (step p g plan) r.is ∙ sym (steps_next p g plan r.count (first_configuration (opening p g turns))) }
+reached_next p g plan turns c next r is = record { count = suc r.count; is = is ∙ ap (step p g plan) r.is ∙ sym (steps_next p g plan r.count (first_configuration (initial_state p g turns))) }
 
 shows_so : (p : ProgramTree) (plan : List InstructionTree) (turns : ℕ) (c : Configuration) (o : Outcome) → Shows p turns c o → outcome_so_far p turns plan c ≡ o
 shows_so p plan turns (At index loops s) o is = absurd is
@@ -108,5 +108,5 @@ goes_on (Some end) is = let bad : true ≡ false = is in cc
 
 -- a run begins where the machine begins
 pub opens : (d : Digraph) (vectors : List Vector) (sets : List ℕ) (turns : ℕ) (p : ProgramTree) → vectors ≡ p.vectors → sets ≡ p.sets
-    → At 0 [] (opened d vectors sets turns) ≡ first_configuration (opening p (graph_value d) turns)
+    → At 0 [] (opened d vectors sets turns) ≡ first_configuration (initial_state p (graph_value d) turns)
 opens d vectors sets turns p same_vectors same_sets = λ i. At 0 [] (opened d (same_vectors i) (same_sets i) turns)

@@ -1,4 +1,4 @@
--- States of a job: whether its run goes on or has ended.
+-- States of a job: whether its run continues or has ended.
 use Rattle.plans.specs.Machine.{Configuration, At, Ended}
 use Rattle.runner.specs.declared.job.Stand.{Stand}
 use Rattle.runner.specs.declared.job.Stand.TheVariants as stand

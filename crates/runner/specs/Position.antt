@@ -9,7 +9,7 @@ use Rattle.algorithm_meaning.specs.Meaning.{shown}
 use Rattle.plans.specs.Instruction.{InstructionTree}
 use Rattle.plans.specs.Machine.{Configuration, At, Ended}
 
--- what a run shows so far: one that goes on shows what is visible at the next instruction, as if its turns were over
+-- what a run shows so far: one that continues shows what is visible at the next instruction, as if its turns were over
 abbrev pub shown_where : ProgramTree → (turns : ℕ) → Option InstructionTree → StateValue → Outcome
 shown_where p turns None s = shown p turns s TurnsOver
 shown_where p turns (Some i) s = shown p turns (forget_beyond i.shown s) TurnsOver

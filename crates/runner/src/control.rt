@@ -16,7 +16,7 @@ use std::alloc::AllocError;
 use typed_tree::Operator;
 
 impl Memory {
-    /// Goes on at the index unless the test holds.
+    /// Continues at the index unless the test holds.
     pub(crate) fn unless(
         &mut self,
         instruction: &Instruction,
@@ -63,7 +63,7 @@ impl Memory {
             Some(end) => {
                 let next = self.state.integer(instruction.shown.integers);
                 self.loops.reserve(1)?;
-                self.state.declare_integer(end)?;
+                self.state.declare_int(end)?;
                 self.loops.push_reserved(LoopCounter { next, end });
                 Ok(Flow::Next)
             }
@@ -87,7 +87,7 @@ impl Memory {
         }
     }
 
-    /// The innermost loop goes on to its next value.
+    /// The innermost loop continues to its next value.
     pub(crate) fn advance(&mut self, instruction: &Instruction) -> Result<(), AllocError>
         ensures done { OnOk result ((p : ProgramTree) (g : GraphValue) (name : ℕ) → HasDone instruction.now Flow.Next self.old self.new p g (Advance name)) }
         ensures vectors { self.new.state.state.vectors ≡ self.old.state.state.vectors }

@@ -1,7 +1,7 @@
-//! Control flow: where a run goes on after an instruction.
+//! Control flow: where a run continues after an instruction.
 use algorithm_meaning::End;
 
-/// Where a run goes on after an instruction, or how it ends there.
+/// Where a run continues after an instruction, or how it ends there.
 #[derive(Clone, Copy)]
 pub(crate) enum Flow {
     /// At the instruction after it.

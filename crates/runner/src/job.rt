@@ -2,7 +2,7 @@
 ghost use Rattle.std.specs.Prelude.{◌≡◌, IfOk, OnOk, OnErr};
 ghost use Rattle.std.specs.Arc.{arc_value};
 ghost use Rattle.typed_tree.specs.ProgramTree.{ProgramTree};
-ghost use Rattle.algorithm_meaning.specs.Meaning.{opening};
+ghost use Rattle.algorithm_meaning.specs.Meaning.{initial_state};
 ghost use Rattle.apply_options.specs.ScheduleTree.{ScheduleTree};
 ghost use Rattle.plans.specs.Machine.{first_configuration, step};
 ghost use Rattle.plans.specs.Plan.{plan_of};
@@ -19,7 +19,7 @@ use std::alloc::{AllocError, Global};
 use std::marker::Model;
 use std::sync::Arc;
 
-/// Whether a run goes on, or how it has ended.
+/// Whether a run continues, or how it has ended.
 #[derive(Clone, Copy, Debug, PartialEq, Eq)]
 pub enum Stand {
     Going,
@@ -28,7 +28,7 @@ pub enum Stand {
 
 /// A run of a plan on a snapshot of a graph, which does one instruction with each call. It may be kept, and sent to
 /// another thread. A contract sees the plan, the graph, the bound of turns, and where the run stands without what the next
-/// instruction does not see (`specs/Resting.antt`). Its vectors stand in the groups of the plan, where these fit.
+/// instruction does not see (`specs/Resting.antt`). Its vectors are in the groups of the plan, where these fit.
 pub struct Job {
     plan: Arc<Plan>,
     graph: Arc<Flat>,
@@ -71,7 +71,7 @@ impl Job {
     ghost use Rattle.runner.specs.Position.{outcome_so_far};
     ghost use Rattle.runner.specs.Resting.{job_value};
 
-    /// A run that stands before the first instruction, for at most n turns. The only error is out of memory.
+    /// A run that is before the first instruction, for at most n turns. The only error is out of memory.
     pub fn new(
         alloc: Global,
         plan: Arc<Plan>,
@@ -79,7 +79,7 @@ impl Job {
         turns: u64,
     ) -> Result<Job, AllocError>
         ensures { IfOk result (λ job. (p : ProgramTree) (s : ScheduleTree) → IsPlan (arc_value plan) p s
-            → job ≡ job_value (arc_value plan) (arc_value graph) turns (first_configuration (opening p (graph_value (arc_value graph)) turns))) }
+            → job ≡ job_value (arc_value plan) (arc_value graph) turns (first_configuration (initial_state p (graph_value (arc_value graph)) turns))) }
     {
         let run = PlanRun::open(alloc, &plan, &graph, turns)?;
         Ok(Job {
@@ -90,7 +90,7 @@ impl Job {
         })
     }
 
-    /// Does one instruction, and tells whether the run goes on. A run that has ended stays as it is.
+    /// Does one instruction, and tells whether the run continues. A run that has ended stays as it is.
     ///
     /// The only error is out of memory, and then nothing is changed.
     pub fn step<E: EdgeApplier>(&mut self, alloc: Global, by: &mut E) -> Result<Stand, AllocError>
@@ -110,7 +110,7 @@ impl Job {
     }
 
     /// What the run shows so far: the vectors, the text, the turns used, and the sets that are visible at the next
-    /// instruction. The end is `TurnsOver` as long as the run goes on. The only error is out of memory.
+    /// instruction. The end is `TurnsOver` as long as the run continues. The only error is out of memory.
     pub fn outcome(&self, alloc: Global) -> Result<Outcome, AllocError>
         ensures { IfOk result (λ o. (p : ProgramTree) (s : ScheduleTree) → IsPlan self.now.plan p s
             → o ≡ outcome_so_far p self.now.turns (plan_of p s) self.now.stands) }

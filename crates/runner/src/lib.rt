@@ -1,8 +1,8 @@
 //! Runs of plans: one instruction after the other, to the end or one at a time.
 //!
 //! [`run_by`] runs a plan on a snapshot of a graph and tells what the run shows: what the program means on the graph's
-//! edges, whatever its schedule. A [`Job`] is a run that does one instruction with each call, and stands where the machine
-//! of the crate `plans` stands after as many steps. `specs/Position.antt` says where a run stands, and `specs/Resting.antt`
+//! edges, whatever its schedule. A [`Job`] is a run that does one instruction with each call, and is where the machine
+//! of the crate `plans` is after as many steps. `specs/Position.antt` says where a run stands, and `specs/Resting.antt`
 //! what a job is.
 //!
 //! [`run`] runs a plan by 1 to 64 workers; what it shows is the same however the pieces of applies fall to them.

@@ -3,7 +3,7 @@ ghost use Rattle.std.specs.Prelude.{◌≡◌, ◌<◌, ◌^◌, ◌+◌, IfOk, 
 ghost use Rattle.algorithm_meaning.specs.declared.outcome.End.TheVariants.{TurnsOver};
 ghost use Rattle.typed_tree.specs.ProgramTree.{ProgramTree};
 ghost use Rattle.apply_options.specs.ScheduleTree.{ScheduleTree};
-ghost use Rattle.algorithm_meaning.specs.Meaning.{opening};
+ghost use Rattle.algorithm_meaning.specs.Meaning.{initial_state};
 ghost use Rattle.algorithm_meaning.specs.Loop.{forget_beyond};
 ghost use Rattle.plans.specs.Machine.{Ended, first_configuration};
 ghost use Rattle.plans.specs.Plan.{plan_of};
@@ -53,7 +53,7 @@ impl PlanRun {
         turns: u64,
     ) -> Result<PlanRun, AllocError>
         ensures configuration { IfOk result (λ r. (p : ProgramTree) → plan.now.vectors.items ≡ p.vectors → plan.now.sets.items ≡ p.sets
-            → configuration_of r ≡ first_configuration (opening p (graph_value graph.now) turns)) }
+            → configuration_of r ≡ first_configuration (initial_state p (graph_value graph.now) turns)) }
         ensures vertices { IfOk result (λ r. r.memory.state.vertices ≡ graph.now.vertices) }
         ensures groups { IfOk result (λ r. AreGroupsOf plan.now graph.now r.memory.state.groups) }
         ensures going { IfOk result (λ r. r.end ≡ None) }
@@ -72,7 +72,7 @@ impl PlanRun {
         })
     }
 
-    /// Goes on where an instruction leads, or ends there.
+    /// Continues where an instruction leads, or ends there.
     pub(crate) fn follow(&mut self, flow: Flow, instruction: &Instruction)
         requires going { self.old.end ≡ None }
         requires room { self.old.index + 1 < 2 ^ 64 }
@@ -144,7 +144,7 @@ impl PlanRun {
         state.into_outcome(alloc, &plan.names, &plan.vectors, run_end)
     }
 
-    /// How it ended; one that goes on is shown as if its turns were over.
+    /// How it ended; one that continues is shown as if its turns were over.
     fn shown_end(&self) -> End
         ensures { result ≡ unwrap_or self.now.end TurnsOver }
     {

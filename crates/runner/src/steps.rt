@@ -28,7 +28,7 @@ use std::alloc::{AllocError, Global};
 
 impl PlanRun {
     /// Does one instruction of the plan and on the graph that the run was opened with; a run that has ended stays. After an
-    /// error it stands before that instruction. The only error is out of memory.
+    /// error it is before that instruction. The only error is out of memory.
     pub(crate) fn step<E: EdgeApplier>(
         &mut self,
         alloc: Global,
@@ -69,7 +69,7 @@ impl PlanRun {
 }
 
 impl Memory {
-    /// Does what an instruction says, and tells where the run goes on.
+    /// Does what an instruction says, and tells where the run continues.
     pub(crate) fn act<E: EdgeApplier>(
         &mut self,
         alloc: Global,
@@ -138,7 +138,7 @@ impl Memory {
         }
     }
 
-    /// Does an instruction that says where the run goes on, or that it ends.
+    /// Does an instruction that says where the run continues, or that it ends.
     fn go_on(&mut self, i: &Instruction) -> Result<Flow, AllocError>
         requires kept { IsKept i.now.keep self.old.state.state }
         requires ready { IsReady i.now.keep i.now.shown i.now.operation }
@@ -205,18 +205,18 @@ impl Memory {
         ensures err { OnErr result (IsAsBefore self.old self.new) }
     {
         match &i.operation {
-            PlanOperation::DeclareInteger { name: _, value } => self.declare_integer(i, value),
-            PlanOperation::DeclareCondition { name: _, value } => self.declare_condition(i, value),
-            PlanOperation::SetInteger { slot, value } => self.set_integer(i, *slot, value),
-            PlanOperation::SetCondition { slot, value } => self.set_condition(i, *slot, value),
-            PlanOperation::ReduceInteger {
+            PlanOperation::DeclareInt { name: _, value } => self.declare_int(i, value),
+            PlanOperation::DeclareBool { name: _, value } => self.declare_bool(i, value),
+            PlanOperation::SetInt { slot, value } => self.set_int(i, *slot, value),
+            PlanOperation::SetBool { slot, value } => self.set_bool(i, *slot, value),
+            PlanOperation::ReduceInt {
                 slot,
                 reduction,
                 value,
-            } => self.reduce_integer(i, *slot, *reduction, value),
+            } => self.reduce_int(i, *slot, *reduction, value),
             PlanOperation::AddVertex { slot, vertex } => self.add_vertex(i, *slot, vertex),
-            PlanOperation::PrintInteger { value } => self.print_integer(i, value),
-            PlanOperation::PrintCondition { value } => self.print_condition(i, value),
+            PlanOperation::PrintInt { value } => self.print_int(i, value),
+            PlanOperation::PrintBool { value } => self.print_bool(i, value),
             _ => unreachable!(),
         }
     }

@@ -1,6 +1,6 @@
 //! Statements on variables.
 ghost use Rattle.std.specs.Prelude.{◌≡◌, ℕ, IfOk, OnErr};
-ghost use Rattle.typed_tree.specs.BlockTree.{DeclareCondition, DeclareInteger, ReduceInteger, SetCondition, SetInteger};
+ghost use Rattle.typed_tree.specs.BlockTree.{DeclareBool, DeclareInt, ReduceInt, SetBool, SetInt};
 ghost use Rattle.typed_tree.specs.ProgramTree.{ProgramTree};
 ghost use Rattle.algorithm_meaning.specs.State.{GraphValue};
 ghost use Rattle.plans.specs.Instruction.{Do, OperationTree};
@@ -18,7 +18,7 @@ use typed_tree::VarRef;
 
 impl Memory {
     /// A new variable of type `int`.
-    pub(crate) fn declare_integer(
+    pub(crate) fn declare_int(
         &mut self,
         instruction: &Instruction,
         value: &ExpressionKernel,
@@ -26,7 +26,7 @@ impl Memory {
         requires kept { IsKept instruction.now.keep self.old.state.state }
         requires visible { IsFor instruction.now.keep value.now }
         ensures done { IfOk result (λ flow. (p : ProgramTree) (g : GraphValue) (t : OperationTree) (name : ℕ) → IsOn g self.old
-            → HasInteger instruction.now.keep value.now (λ e. Do (DeclareInteger name e)) t → HasDone instruction.now flow self.old self.new p g t) }
+            → HasInteger instruction.now.keep value.now (λ e. Do (DeclareInt name e)) t → HasDone instruction.now flow self.old self.new p g t) }
         ensures vectors { self.new.state.state.vectors ≡ self.old.state.state.vectors }
         ensures vertices { self.new.state.vertices ≡ self.old.state.vertices }
         ensures groups { self.new.state.groups ≡ self.old.state.groups }
@@ -37,7 +37,7 @@ impl Memory {
             .eval_int(value, instruction.keep, &mut self.registers)?
         {
             Some(n) => {
-                self.state.declare_integer(n)?;
+                self.state.declare_int(n)?;
                 Ok(Flow::Next)
             }
             None => Ok(Flow::Fault),
@@ -45,7 +45,7 @@ impl Memory {
     }
 
     /// A new variable of type `bool`.
-    pub(crate) fn declare_condition(
+    pub(crate) fn declare_bool(
         &mut self,
         instruction: &Instruction,
         value: &ExpressionKernel,
@@ -53,7 +53,7 @@ impl Memory {
         requires kept { IsKept instruction.now.keep self.old.state.state }
         requires visible { IsFor instruction.now.keep value.now }
         ensures done { IfOk result (λ flow. (p : ProgramTree) (g : GraphValue) (t : OperationTree) (name : ℕ) → IsOn g self.old
-            → HasCondition instruction.now.keep value.now (λ c. Do (DeclareCondition name c)) t → HasDone instruction.now flow self.old self.new p g t) }
+            → HasCondition instruction.now.keep value.now (λ c. Do (DeclareBool name c)) t → HasDone instruction.now flow self.old self.new p g t) }
         ensures vectors { self.new.state.state.vectors ≡ self.old.state.state.vectors }
         ensures vertices { self.new.state.vertices ≡ self.old.state.vertices }
         ensures groups { self.new.state.groups ≡ self.old.state.groups }
@@ -64,7 +64,7 @@ impl Memory {
             .eval_bool(value, instruction.keep, &mut self.registers)?
         {
             Some(b) => {
-                self.state.declare_condition(b)?;
+                self.state.declare_bool(b)?;
                 Ok(Flow::Next)
             }
             None => Ok(Flow::Fault),
@@ -72,7 +72,7 @@ impl Memory {
     }
 
     /// A variable of type `int` gets a value.
-    pub(crate) fn set_integer(
+    pub(crate) fn set_int(
         &mut self,
         instruction: &Instruction,
         slot: VarRef,
@@ -81,7 +81,7 @@ impl Memory {
         requires kept { IsKept instruction.now.keep self.old.state.state }
         requires visible { IsFor instruction.now.keep value.now }
         ensures done { IfOk result (λ flow. (p : ProgramTree) (g : GraphValue) (t : OperationTree) → IsOn g self.old
-            → HasInteger instruction.now.keep value.now (λ e. Do (SetInteger slot e)) t → HasDone instruction.now flow self.old self.new p g t) }
+            → HasInteger instruction.now.keep value.now (λ e. Do (SetInt slot e)) t → HasDone instruction.now flow self.old self.new p g t) }
         ensures vectors { self.new.state.state.vectors ≡ self.old.state.state.vectors }
         ensures vertices { self.new.state.vertices ≡ self.old.state.vertices }
         ensures groups { self.new.state.groups ≡ self.old.state.groups }
@@ -92,7 +92,7 @@ impl Memory {
             .eval_int(value, instruction.keep, &mut self.registers)?
         {
             Some(n) => {
-                self.state.set_integer(slot.index, n);
+                self.state.set_int(slot.index, n);
                 Ok(Flow::Next)
             }
             None => Ok(Flow::Fault),
@@ -100,7 +100,7 @@ impl Memory {
     }
 
     /// A variable of type `bool` gets a value.
-    pub(crate) fn set_condition(
+    pub(crate) fn set_bool(
         &mut self,
         instruction: &Instruction,
         slot: VarRef,
@@ -109,7 +109,7 @@ impl Memory {
         requires kept { IsKept instruction.now.keep self.old.state.state }
         requires visible { IsFor instruction.now.keep value.now }
         ensures done { IfOk result (λ flow. (p : ProgramTree) (g : GraphValue) (t : OperationTree) → IsOn g self.old
-            → HasCondition instruction.now.keep value.now (λ c. Do (SetCondition slot c)) t → HasDone instruction.now flow self.old self.new p g t) }
+            → HasCondition instruction.now.keep value.now (λ c. Do (SetBool slot c)) t → HasDone instruction.now flow self.old self.new p g t) }
         ensures vectors { self.new.state.state.vectors ≡ self.old.state.state.vectors }
         ensures vertices { self.new.state.vertices ≡ self.old.state.vertices }
         ensures groups { self.new.state.groups ≡ self.old.state.groups }
@@ -120,7 +120,7 @@ impl Memory {
             .eval_bool(value, instruction.keep, &mut self.registers)?
         {
             Some(b) => {
-                self.state.set_condition(slot.index, b);
+                self.state.set_bool(slot.index, b);
                 Ok(Flow::Next)
             }
             None => Ok(Flow::Fault),
@@ -128,7 +128,7 @@ impl Memory {
     }
 
     /// A variable of type `int` is reduced with a value.
-    pub(crate) fn reduce_integer(
+    pub(crate) fn reduce_int(
         &mut self,
         instruction: &Instruction,
         slot: VarRef,
@@ -138,7 +138,7 @@ impl Memory {
         requires kept { IsKept instruction.now.keep self.old.state.state }
         requires visible { IsFor instruction.now.keep value.now }
         ensures done { IfOk result (λ flow. (p : ProgramTree) (g : GraphValue) (t : OperationTree) → IsOn g self.old
-            → HasInteger instruction.now.keep value.now (λ e. Do (ReduceInteger slot reduction e)) t → HasDone instruction.now flow self.old self.new p g t) }
+            → HasInteger instruction.now.keep value.now (λ e. Do (ReduceInt slot reduction e)) t → HasDone instruction.now flow self.old self.new p g t) }
         ensures vectors { self.new.state.state.vectors ≡ self.old.state.state.vectors }
         ensures vertices { self.new.state.vertices ≡ self.old.state.vertices }
         ensures groups { self.new.state.groups ≡ self.old.state.groups }
@@ -149,7 +149,7 @@ impl Memory {
             .eval_int(value, instruction.keep, &mut self.registers)?
         {
             Some(n) => {
-                self.state.reduce_integer(slot.index, reduction, n);
+                self.state.reduce_int(slot.index, reduction, n);
                 Ok(Flow::Next)
             }
             None => Ok(Flow::Fault),

@@ -77,7 +77,7 @@ pub fn run_alone(
 /// Runs a plan by n workers, 1 to 64, of whom the caller is worker 1, in threads of their own for each edge apply: the
 /// outcome does not depend on their number, nor on who does which piece.
 ///
-/// `gate` is told of each piece of an apply before it is done. Where it watches, the pieces and the workers are exactly
+/// `gate` is called with each piece of an apply before it is done. Where it watches, the pieces and the workers are exactly
 /// those of the plan's schedule; else an apply with few edges is done by fewer workers, or as a whole by the caller.
 ///
 /// Errors: `BadWorkers` where the number of workers is not 1 to 64, else `NoMemory`.

@@ -59,7 +59,7 @@ well_from p s first second (Some a) (Some b) is_one is_other e =
       other = b;
       first_applies = is_one;
       second_applies = is_other;
-      behind = from_not (is_followed_by p first second) behind.0;
+      next_in_block = from_not (is_followed_by p first second) behind.0;
       same_sets = from_not (have_same_sets p.names a b) sets.0;
       independent = is_independent p a b (from_not (are_independent p a b) independent.0);
     }

@@ -1,4 +1,4 @@
--- The calls of a schedule, and what they come to one after the other.
+-- The calls of a schedule, and their result, one after the other.
 use Rattle.std.specs.Prelude.{◌≡◌, ℕ, Bool, false, not, ◌||◌, nat_eq, nat_lt, List, [], ◌∷◌, ◌++◌, length, Option, Some, None, Result, Ok, Err, if◌then◌else◌}
 use Rattle.std.specs.List.{concat, list_any}
 use Rattle.apply_options.specs.declared.setting.Setting.{Setting}
@@ -50,7 +50,7 @@ apply_in (Some site) = site.apply
 abbrev pub apply_at : ProgramTree → ℕ → Option StatementApply
 apply_at p label = apply_in (site_of label p.main)
 
--- a `config` call on what a label stands before
+-- a `config` call on what a label is before
 abbrev pub value_on : Setting → List ℕ → ScheduleTree → ℕ → Option StatementApply → Result ScheduleTree ScheduleRule
 value_on setting text s label (Some (Edges ends function name)) = and_then (given setting text (apply_schedule_of label s)) λ c. with_apply_schedule label c s
 value_on setting text s label (Some (Vertices set function)) = Err rule.NoApply
@@ -141,7 +141,7 @@ with_call_of p which arguments s = with_setting_value p which arguments s
 abbrev pub with_call : ProgramTree → ScheduleCallTree → ScheduleTree → Result ScheduleTree ScheduleRule
 with_call p call s = with_call_of p call.setting call.arguments s
 
--- the calls, one after the other; the first that breaks a rule is told, with its index
+-- the calls, one after the other; the first that breaks a rule is reported, with its index
 abbrev pub after_call : ℕ → Result ScheduleTree ScheduleRule → (ScheduleTree → Result ScheduleTree (ScheduleRule × ℕ)) → Result ScheduleTree (ScheduleRule × ℕ)
 after_call at (Ok s) rest = rest s
 after_call at (Err r) rest = Err (r, at)
@@ -154,7 +154,7 @@ with_calls p (call ∷ calls) s = after_call call.at (with_call p call s) λ new
 abbrev pub schedule_of : ProgramTree → Result ScheduleTree (ScheduleRule × ℕ)
 schedule_of p = with_calls p p.schedule empty_schedule
 
--- the answer is what the schedule says; nothing is said where memory runs out
+-- the answer is what the schedule says; nothing is said if memory runs out
 abbrev pub Accepts : ProgramTree → Result ScheduleTree ScheduleError → Type 0
 Accepts p (Ok s) = schedule_of p ≡ Ok s
 Accepts p (Err (Faulty r at)) = schedule_of p ≡ Err (r, at)

@@ -30,14 +30,14 @@ abbrev pub IsIndependent : ProgramTree → StatementApply → StatementApply →
 IsIndependent p (Edges a f r) (Edges b g s) = SharesNoVector p f r b g
 IsIndependent p _ _ = Unit {0}
 
--- the second of two fused statements stands right after the first in one block; both apply to vertices or both to
+-- the second of two fused statements is right after the first in one block; both apply to vertices or both to
 -- edges, of the same sets and filters; and edge applies are independent
 pub record IsFusedWell (p : ProgramTree) (first second : ℕ) : Type 0 where
   pub one : StatementApply
   pub other : StatementApply
   pub first_applies : apply_at p first ≡ Some one
   pub second_applies : apply_at p second ≡ Some other
-  pub behind : is_followed_by p first second ≡ true
+  pub next_in_block : is_followed_by p first second ≡ true
   pub same_sets : have_same_sets p.names one other ≡ true
   pub independent : IsIndependent p one other
 

@@ -73,7 +73,7 @@ abbrev pub label_of : BlockTree → Option ℕ
 label_of Empty = None
 label_of (Then number label action rest) = label
 
--- what a statement's label stands before, if it has one
+-- what a statement's label is before, if it has one
 abbrev pub site_at : Option ℕ → StatementKindTree → BlockTree → List (ℕ × Site)
 site_at None action rest = []
 site_at (Some label) action rest = (label, record { apply = apply_of action; next = label_of rest }) ∷ []
@@ -87,12 +87,12 @@ abbrev mutual
   sites_in (For name first end body) = sites_of body
   sites_in _ = []
 
-  -- the labels of statements, each with what it stands before, in the order of the text
+  -- the labels of statements, each with what it is before, in the order of the text
   pub sites_of : BlockTree → List (ℕ × Site)
   sites_of Empty = []
   sites_of (Then number label action rest) = site_at label action rest ++ (sites_in action ++ sites_of rest)
 
--- what a label stands before
+-- what a label is before
 abbrev pub site_of : ℕ → BlockTree → Option Site
 site_of label main = lookup (nat_eq label) (sites_of main)
 

@@ -22,7 +22,7 @@ pub enum ScheduleRule {
     BadArgument,
     /// A `config` call of one kind names a label once, and a label is in one fusing, and once.
     GivenTwice,
-    /// Of two fused statements the second stands right after the first in one block.
+    /// Of two fused statements the second is right after the first in one block.
     NotAdjacent,
     /// Two fused applies are both vertex applies or both edge applies, of the same sets and filters.
     DifferentSets,
@@ -72,7 +72,7 @@ impl ScheduleError {
         }
     }
 
-    /// The offset of the faulty call, in bytes, or `None` where memory ran out.
+    /// The offset of the faulty call, in bytes, or `None` if memory ran out.
     pub fn at(self) -> Option<usize>
         ensures { result ≡ offset_of self }
     {

@@ -8,7 +8,7 @@ ghost use Rattle.schedule.specs.declared.error.ScheduleRule as broken;
 ghost use Rattle.schedule.specs.Laws.{AreOnceOnLabels, FusesInPairs, FusesWell, GroupsAreDistinct, HasDefaults, HasValues};
 ghost use Rattle.apply_options.specs.ScheduleTree.{ScheduleTree};
 
-/// The law that of two fused statements the second stands right after the first in one block, that they apply to
+/// The law that of two fused statements the second is right after the first in one block, that they apply to
 /// the same sets, and that edge applies among them are independent: no vector that the first writes is read or
 /// written by the second or read by a filter of its ends, and no end of the second is the set that the first one's
 /// changes go to.

@@ -10,11 +10,11 @@
 //! first call that breaks one, and by the least that it breaks (`refused_calls_break_the_least_rule`), and it is accepted
 //! exactly where no call breaks any (`accepted_calls_break_no_rule`).
 //!
-//! One pass over `main` finds what the labels stand before, and labels and vectors are found by a hash. So the time is
+//! One pass over `main` finds what the labels are before, and labels and vectors are found by a hash. So the time is
 //! in proportion to the program and to the calls, and for a fusing to the two functions and the filters besides.
 //!
 //! The idea of a schedule beside the algorithm is that of GraphIt (Zhang, Yang, Baghdadi, Kamil, Shun, Amarasinghe,
-//! OOPSLA 2018). The lowering to plans stands on this crate.
+//! OOPSLA 2018). The lowering to plans depends on this crate.
 #![tactic(auto)]
 
 mod access;

@@ -85,7 +85,7 @@ impl Schedule {
             .unwrap_or(DenseVertexSet::BoolArray)
     }
 
-    /// Where the apply with this label stands in a fusing, if it is in one.
+    /// Where the apply with this label is in a fusing, if it is in one.
     pub fn fused(&self, label: Option<usize>) -> Option<Fused>
         ensures { result ≡ (label_apply_schedule label self.now).fused }
     {
@@ -128,7 +128,7 @@ impl Schedule {
         Ok(())
     }
 
-    /// Puts where the apply with this label stands in a fusing.
+    /// Puts where the apply with this label is in a fusing.
     pub(crate) fn fuse(&mut self, label: usize, fused: Fused) -> Result<(), AllocError>
         ensures { OnOk result (self.new ≡ with_fused label fused self.old) }
     {

@@ -1,4 +1,4 @@
-//! Label sites: what each label of a program stands before.
+//! Label sites: what each label of a program is before.
 ghost use Rattle.std.specs.Prelude.{◌≡◌, ◌++◌, drop, nat_eq, IfOk, OnOk};
 ghost use Rattle.std.specs.Map.{lookup};
 ghost use Rattle.typed_tree.specs.BlockTree.{statement_kind_tree, block_tree};
@@ -10,7 +10,7 @@ use std::alloc::{AllocError, Global};
 use std::marker::Model;
 use typed_tree::{MainStatement, SetValue, StatementApply, StatementKind};
 
-/// What a label stands before.
+/// What a label is before.
 #[derive(Clone, Copy, Debug, PartialEq, Eq)]
 pub struct Site {
     /// What its statement applies, if it does.
@@ -19,7 +19,7 @@ pub struct Site {
     pub next: Option<usize>,
 }
 
-/// The labels of the statements of `main`, each with what it stands before.
+/// The labels of the statements of `main`, each with what it is before.
 pub(crate) struct Sites {
     entries: IndexMap<usize, Site>,
 }
@@ -55,7 +55,7 @@ impl Sites {
         Ok(sites)
     }
 
-    /// What the label stands before, or `None` where it stands before no statement of `main`.
+    /// What the label is before, or `None` where it is before no statement of `main`.
     pub(crate) fn get(&self, label: usize) -> Option<Site>
         ensures { result ≡ lookup (nat_eq label) self.now }
     {

@@ -16,7 +16,7 @@ IsEnd Finished = Unit {0}
 IsEnd TurnsOver = Unit {0}
 IsEnd (Fault number statement) = (number < 2 ^ 64) × (statement < 2 ^ 64)
 
--- a name, in which the byte 58, a colon, does not stand, and integers of 64 bits
+-- a name, in which the byte 58, a colon, is not, and integers of 64 bits
 pub record IsVector (v : NamedVector) : Type 0 where
   pub name : HasNone 58 v.name
   pub entries : AllByRecursion (FitsSigned w64) v.entries

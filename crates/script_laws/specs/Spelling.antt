@@ -66,7 +66,7 @@ AreArguments (EdgesOf ticket) words = AreLong (ticket ∷ []) words
 AreArguments (Run program turns workers None) words = AreLong (program ∷ turns ∷ workers ∷ []) words
 AreArguments (Run program turns workers (Some ticket)) words = AreLong (program ∷ turns ∷ workers ∷ ticket ∷ []) words
 
--- the words are those of a command: its name, and what stands after it
+-- the words are those of a command: its name, and what is after it
 abbrev pub HasWords : Command → List (List ℕ) → Type 0
 HasWords c [] = ⊥
 HasWords c (name ∷ words) = (name ≡ command_name c) × AreArguments c words

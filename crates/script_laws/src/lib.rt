@@ -11,7 +11,7 @@
 //! (`texts_determine_what_runs_show`); `specs/Shown.antt` says of which outcomes: those whose numbers are in the ranges of their
 //! types, and whose names have no colon.
 //!
-//! No crate of the program stands on this one, so that its proofs are off the way of a build.
+//! No crate of the program depends on this one, so that its proofs are off the way of a build.
 #![tactic(auto)]
 
 mod commands;

@@ -148,7 +148,7 @@ last_of (x ∷ y ∷ xs) = last_of (y ∷ xs)
 abbrev pub ended_lines : List ℕ → List (List ℕ)
 ended_lines text = all_but_last (lines_of text)
 
--- what stands after the last line feed: the beginning of a line that has not ended
+-- what is after the last line feed: the beginning of a line that has not ended
 abbrev pub unended_line : List ℕ → List ℕ
 unended_line text = last_of (lines_of text)
 

@@ -13,11 +13,11 @@
 //! [`script`] is proved to write exactly those replies to the bytes that the reader gave, in whatever
 //! pieces it gave them, and [`run_text`] those to a text. A reader that fails finds
 //! the replies to all lines that had ended written, and no more; after the other errors a beginning of
-//! the replies stands there, whatever the reader would have given next (`specs/Script.antt`). A run's
+//! the replies is there, whatever the reader would have given next (`specs/Script.antt`). A run's
 //! reply is written before the next line is done.
 //!
 //! [`joined_pieces`], [`first_piece`] and [`last_line`] are laws of the definitions themselves, and do
-//! nothing when called. The program stands on this crate.
+//! nothing when called. The program depends on this crate.
 #![tactic(auto)]
 
 mod commands;

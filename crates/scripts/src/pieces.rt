@@ -3,7 +3,7 @@ ghost use Rattle.std.specs.Prelude.{◌≡◌, ◌<◌, ◌↔◌, ℕ, List, []
 ghost use Rattle.scripts.specs.Commands.{HasNone, lines_of, JoinsAgain, IsFirstPiece, HasLastLine};
 ghost use Rattle.scripts.specs.inside.Parsing.{IsCutAt};
 
-/// The first line, without its line feed, and what stands after that line feed; or `None` where the
+/// The first line, without its line feed, and what is after that line feed; or `None` where the
 /// bytes have no line feed, so that they are one line. The time goes by the line, not by the rest.
 pub fn split_line(bytes: &[u8]) -> Option<(&[u8], &[u8])>
     // The line feed is byte 10.
@@ -18,7 +18,7 @@ pub fn split_line(bytes: &[u8]) -> Option<(&[u8], &[u8])>
     split_piece(bytes, b'\n')
 }
 
-/// What stands before the first separator, and what stands after it.
+/// What is before the first separator, and what is after it.
 #[inline]
 pub(crate) fn split_piece(bytes: &[u8], separator: u8) -> Option<(&[u8], &[u8])>
     ensures { IsCutAt separator bytes.now result }

@@ -157,7 +157,7 @@ fn answer_line<P: Programs, W: Drain>(
     }
 }
 
-/// Does a command while no graph is open: only `vertices` may stand there, and it opens one.
+/// Does a command while no graph is open: only `vertices` may be there, and it opens one.
 fn open<P: Programs, W: Drain>(
     host: &Host<'_, P>,
     graph: &mut Option<OpenGraph>,

@@ -10,7 +10,7 @@ use std::marker::Model;
 /// The words of a line that are not read yet. A contract sees them as the list of those words.
 #[derive(Drop)]
 pub(crate) struct Words<'a> {
-    // What stands after the space after the last word that was read, or `None` after the last word.
+    // What is after the space after the last word that was read, or `None` after the last word.
     rest: Option<&'a [u8]>,
 }
 

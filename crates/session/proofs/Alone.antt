@@ -6,7 +6,7 @@ use Rattle.std.proofs.lemmas.List.Sums.{sum_by-cons}
 use Rattle.flat_snapshot.specs.Digraph.{Digraph}
 use Rattle.plans.specs.Machine.{Configuration, At, Ended, step, steps, first_configuration}
 use Rattle.plans.specs.Plan.{plan_of}
-use Rattle.algorithm_meaning.specs.Meaning.{opening}
+use Rattle.algorithm_meaning.specs.Meaning.{initial_state}
 use Rattle.run_state.specs.State.{graph_value}
 use Rattle.runner.proofs.Running.{steps_more}
 use Rattle.version_list.specs.Machine.{ticket_graph}
@@ -22,7 +22,7 @@ on_from p g n c = steps p.tree (graph_value g) (plan_of p.tree p.schedule) n c
 
 -- so many instructions more
 pub more_instructions : (p : ScheduledProgram) (g : Digraph) (turns m n : ℕ) → index_after p g turns (m + n) ≡ on_from p g n (index_after p g turns m)
-more_instructions p g turns m n = steps_more p.tree (graph_value g) (plan_of p.tree p.schedule) m n (first_configuration (opening p.tree (graph_value g) turns))
+more_instructions p g turns m n = steps_more p.tree (graph_value g) (plan_of p.tree p.schedule) m n (first_configuration (initial_state p.tree (graph_value g) turns))
 
 -- a job that is left alone
 stays_there : (job : WorldJob) → GoesOnAlone job 0 job

@@ -2,7 +2,7 @@
 use Rattle.std.proofs.Common.{◌≡◌, ℕ, zero, suc, ◌+◌, List, [], ◌∷◌, ◌++◌, Option, Some, None, Result, Ok, Err, IfOk, OnErr, slice_get, length, refl, sym, ap, ◌∙◌, subst}
 use Rattle.std.specs.Prelude.{slice_set}
 use Rattle.std.specs.Result.{IfErr}
-use Rattle.algorithm_meaning.specs.Meaning.{opening}
+use Rattle.algorithm_meaning.specs.Meaning.{initial_state}
 use Rattle.algorithm_meaning.specs.State.{StateValue}
 use Rattle.algorithm_meaning.specs.declared.state.LoopCounter.{LoopCounter}
 use Rattle.apply_options.specs.ScheduleTree.{ScheduleTree}
@@ -121,7 +121,7 @@ no_ticket programs w old program turns plan graph at found none =
 
 -- the value of a job that is new: it stands before the first instruction
 abbrev pub IsNewJob : Plan → Digraph → (turns : ℕ) → JobValue → Type 0
-IsNewJob plan graph turns j = (p : ProgramTree) (s : ScheduleTree) → IsPlan plan p s → j ≡ job_value plan graph turns (first_configuration (opening p (graph_value graph) turns))
+IsNewJob plan graph turns j = (p : ProgramTree) (s : ScheduleTree) → IsPlan plan p s → j ≡ job_value plan graph turns (first_configuration (initial_state p (graph_value graph) turns))
 
 stands_new : (plan : Plan) (graph : Digraph) (turns : ℕ) (j : JobValue) (program : ScheduledProgram) → IsPlanOf plan program → IsNewJob plan graph turns j
     → StandsAt j (record { program = program; graph = graph; turns = turns; count = 0 })

@@ -29,20 +29,20 @@ abbrev pub is_step_of : (number : ℕ) → SessionStep → Bool
 is_step_of number (JobStep job) = job == number
 is_step_of number step = false
 
--- The job has the program, the graph and the bound that it had, and stands where the program's machine stands on that graph after n instructions more.
+-- The job's program, graph and bound are unchanged, and its machine has done so many more instructions.
 pub record GoesOnAlone (old : WorldJob) (more : ℕ) (new : WorldJob) : Type 0 where
   pub program : new.program ≡ old.program
   pub graph : new.graph ≡ old.graph
   pub turns : new.turns ≡ old.turns
   pub stands : job_index new ≡ index_after old.program old.graph old.turns (old.count + more)
 
--- The job of a session runs a plan of that program on that graph within that bound, and stands where the program's machine stands on it after n instructions
--- more.
+-- The job of a session runs a plan of the old job's program on its graph within its bound, and its machine has done so many more
+-- instructions.
 pub record RunsAlone (old : WorldJob) (more : ℕ) (new : JobValue) : Type 0 where
   pub plan : IsPlanOf new.plan old.program
   pub is : new ≡ job_value new.plan old.graph old.turns (index_after old.program old.graph old.turns (old.count + more))
 
--- what a run of the job's program shows so far where it stands so
+-- what a run of the job's program shows in this configuration
 abbrev pub shown_at : WorldJob → Configuration → Outcome
 shown_at job c = outcome_so_far job.program.tree job.turns (plan_of job.program.tree job.program.schedule) c
 
@@ -51,13 +51,13 @@ pub record ShowsItsOwnRun (job : WorldJob) (j : JobValue) : Type 0 where
   pub so_far : shown_at job j.stands ≡ shown_at job (job_index job)
   pub at_end : (end : End) → stand_of j.stands ≡ Ended end → shown_at job j.stands ≡ meaning job.program.tree (graph_value job.graph) job.turns
 
--- the two steps are answered alike and lead to one world, whichever is taken first
+-- in both orders the two steps have the same replies and lead to the same world
 pub record MayChangePlaces (programs : List ScheduledProgram) (w : World) (one other : SessionStep) : Type 0 where
   pub worlds : world_after programs w (one ∷ other ∷ []) ≡ world_after programs w (other ∷ one ∷ [])
   pub one_reply : (step_answer programs (step_answer programs w other).world one).reply ≡ (step_answer programs w one).reply
   pub other_reply : (step_answer programs (step_answer programs w one).world other).reply ≡ (step_answer programs w other).reply
 
--- the batch that a step commits, where it is accepted
+-- the batch that a step commits, none if it is refused or no commit
 abbrev pub batch_committed_by : SessionStep → SessionReply → List (List Entry)
 batch_committed_by (Commit batch) (Of (Version number)) = batch ∷ []
 batch_committed_by step reply = []
@@ -68,8 +68,8 @@ committed_batches programs w [] = []
 committed_batches programs w (step ∷ steps) = batch_committed_by step (step_answer programs w step).reply
     ++ committed_batches programs (step_answer programs w step).world steps
 
--- there are as many versions beside version 0 as batches, and the graph of version k, also where a ticket holds it, is n vertices without edges, taken through
--- the first k of the batches
+-- The number of the newest version is that of the batches. The graph of version k, also for a ticket on it, is the graph of n
+-- vertices without edges after the first k batches.
 pub record HasFolds (n : ℕ) (batches : List (List Entry)) (w : World) : Type 0 where
   pub number : newest_number w.versions ≡ length batches
   pub graph : (k : ℕ) → version_graph w.versions k ≡ graph_through (empty_graph n) (take k batches)

@@ -25,12 +25,12 @@ pub record IsPlanOf (plan : Plan) (program : ScheduledProgram) : Type 0 where
   pub planned : IsPlan plan program.tree program.schedule
   pub reducing : AppliesReduce program.tree (plan_of program.tree program.schedule)
 
--- the job runs a plan of the world's program on the world's graph, and stands where the machine stands after the world's count of instructions
+-- the job runs a plan of the world's program on the world's graph, and is where the machine is after the world's count of instructions
 pub record StandsAt (j : JobValue) (job : WorldJob) : Type 0 where
   pub plan : IsPlanOf j.plan job.program
   pub is : j ≡ job_value j.plan job.graph job.turns (job_index job)
 
--- the session has plans of these programs, and stands where the world stands
+-- the session has plans of these programs, and is where the world stands
 pub record IsAt (programs : List ScheduledProgram) (w : World) (s : SessionValue) : Type 0 where
   pub plans : ArePairwise IsPlanOf s.plans programs
   pub versions : s.versions ≡ w.versions
@@ -48,7 +48,7 @@ Opens n b plans (Err HistoryFull) = ⊥
 Opens n b plans (Err NoProgram) = ⊥
 Opens n b plans (Err NoJob) = ⊥
 
--- the reply is the answer's, and the session stands where the answer's world stands
+-- the reply is the answer's, and the session is where the answer's world stands
 pub record Takes (programs : List ScheduledProgram) (a : StepAnswer) (reply : SessionReply) (s : SessionValue) : Type 0 where
   pub reply_is : reply ≡ a.reply
   pub stands : IsAt programs a.world s

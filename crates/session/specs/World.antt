@@ -2,7 +2,7 @@
 use Rattle.std.specs.Prelude.{ℕ, zero, suc, ◌+◌, List, [], ◌∷◌, ◌++◌, length, Option, Some, None, slice_get, slice_set}
 use Rattle.typed_tree.specs.ProgramTree.{ProgramTree}
 use Rattle.apply_options.specs.ScheduleTree.{ScheduleTree}
-use Rattle.algorithm_meaning.specs.Meaning.{opening}
+use Rattle.algorithm_meaning.specs.Meaning.{initial_state}
 use Rattle.plans.specs.Machine.{Configuration, At, Ended, first_configuration, steps}
 use Rattle.plans.specs.Plan.{plan_of}
 use Rattle.flat_snapshot.specs.Digraph.{Digraph}
@@ -34,16 +34,16 @@ pub record World : Type 0 where
   pub versions : State
   pub jobs : List WorldJob
 
--- where the machine of a program stands after n instructions
+-- where the machine of a program is after n instructions
 abbrev pub index_after : ScheduledProgram → Digraph → (turns count : ℕ) → Configuration
 index_after p g turns count =
-    steps p.tree (graph_value g) (plan_of p.tree p.schedule) count (first_configuration (opening p.tree (graph_value g) turns))
+    steps p.tree (graph_value g) (plan_of p.tree p.schedule) count (first_configuration (initial_state p.tree (graph_value g) turns))
 
 -- where a job stands
 abbrev pub job_index : WorldJob → Configuration
 job_index job = index_after job.program job.graph job.turns job.count
 
--- a job that stands so, after one more instruction: one that has ended stays
+-- a job in this state, after one more instruction: one that has ended stays
 abbrev pub one_more : Configuration → WorldJob → WorldJob
 one_more (At index loops s) job = record job { count = job.count + 1 }
 one_more (Ended s end) job = job

@@ -11,7 +11,7 @@ ghost use Rattle.session.specs.Standing.{SessionValue, StandsAt, IsAt};
 ghost use Rattle.session.specs.Laws.{is_step_of, GoesOnAlone, RunsAlone, ShowsItsOwnRun, MayChangePlaces, committed_batches, HasFolds, HasPrograms};
 
 /// A job goes by its own steps alone. Whatever steps are taken, it keeps its program, its graph and its bound of turns, and
-/// stands where its program's machine stands on that graph after as many instructions more as there are steps of this job:
+/// is where its program's machine is on that graph after as many instructions more as there are steps of this job:
 /// no commit, hold, release, start or step of another job changes that. So it is in the world, and in a session that stands
 /// where the world stands.
 pub fn jobs_go_by_their_own_steps()
@@ -45,7 +45,7 @@ pub fn steps_of_jobs_change_places()
         → MayChangePlaces programs w (JobStep one) (JobStep other) }
 {}
 
-/// Plans that were compiled are plans of some programs, so that a session of them stands where a world stands.
+/// Plans that were compiled are plans of some programs, so that a session of them is where a world stands.
 pub fn compiled_plans_have_their_programs()
     ensures { (plans : List Plan) → All IsCompiled plans → HasPrograms plans }
 {}

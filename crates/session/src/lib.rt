@@ -5,7 +5,7 @@
 //! does one instruction of a job. Each job keeps the version that it was started on, whatever is committed or released later.
 //!
 //! A contract sees a session as the plans, the state of the versions and the jobs (`specs/Standing.antt`), and says that it
-//! stands where a world stands. The world (`specs/World.antt`) is a state of the version machine and a list of jobs, each a
+//! is where a world stands. The world (`specs/World.antt`) is a state of the version machine and a list of jobs, each a
 //! program, a graph, a bound of turns and a count of the instructions that it has done; each step changes one of them. The
 //! promise is that replies and state are the world's for every list of steps, where the plans are those of compiled programs.
 //! The laws of the world (`laws`) say in plain words what follows: a job goes by its own steps alone, a version is the fold

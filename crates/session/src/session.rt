@@ -92,7 +92,7 @@ impl Session {
     }
 
     /// Takes a step, and answers it: a commit, a hold or a release as [`Versions`] answers it; a start with the number of the new
-    /// job; a job's step with how the job stands after it. A step that is refused changes nothing, and is answered
+    /// job; a job's step with how the job is after it. A step that is refused changes nothing, and is answered
     /// `Of(Refused(number))`: a start with 412 where no program has the number, else with 122 where the ticket is not open; a
     /// job's step with 413 where no job has the number. The step of a job that has ended changes nothing.
     ///
@@ -115,7 +115,7 @@ impl Session {
     /// Takes steps one after another, and answers what each is answered. A step that is refused changes nothing, and the next
     /// one follows.
     ///
-    /// The only error is `NoMemory`, after which the session stands where it stands after the steps before some step.
+    /// The only error is `NoMemory`, after which the session is where it is after the steps before some step.
     pub fn run(
         &mut self,
         alloc: Global,
@@ -213,7 +213,7 @@ impl Session {
         Ok(SessionReply::Job(self.jobs.len() as u64))
     }
 
-    /// Does one instruction of a job, and tells how the job stands after it.
+    /// Does one instruction of a job, and tells how the job is after it.
     fn step_job(&mut self, alloc: Global, number: u64) -> Result<SessionReply, SessionError>
         ensures attempts { (programs : List ScheduledProgram) (w : World) → IsAt programs w self.old
             → Attempts programs w (step_answer programs w (JobStep number)) self.old result self.new }
@@ -230,7 +230,7 @@ impl Session {
     }
 }
 
-/// What is told of a step: a refusal is a reply, and want of memory none.
+/// What is reported of a step: a refusal is a reply, and want of memory none.
 fn told(answer: Result<SessionReply, SessionError>) -> Result<SessionReply, SessionError>
     ensures { result ≡ told_of answer }
 {

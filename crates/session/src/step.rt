@@ -48,7 +48,7 @@ impl Clone for SessionStep {
 }
 
 /// What a step is answered: the reply of the versions, or that the step is refused; the number of the job that was started;
-/// or how a job stands after its instruction.
+/// or how a job is after its instruction.
 #[derive(Clone, Copy, Debug, PartialEq, Eq)]
 pub enum SessionReply {
     Of(Reply),

@@ -12,7 +12,7 @@ use c_tree::{CTree, ChunkSize, Part};
 use std::alloc::{AllocError, Global};
 use tail_codec::{Entries, MapOperation, merge_entries};
 
-/// What is done with two sets, whose keys stand above a base.
+/// What is done with two sets, whose keys are above a base.
 #[derive(Clone, Copy)]
 pub(crate) struct Task {
     pub(crate) operation: MapOperation,
@@ -121,8 +121,8 @@ pub(crate) fn combine_lists(
     Ok(Combined { part, common })
 }
 
-/// The answer for what stands below a head of the first set, then the head if it belongs to the answer,
-/// then the answer for what stands above it.
+/// The answer for what is below a head of the first set, then the head if it belongs to the answer,
+/// then the answer for what is above it.
 pub(crate) fn rejoin(
     alloc: Global,
     operation: MapOperation,

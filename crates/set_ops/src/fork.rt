@@ -8,8 +8,8 @@ pub trait Fork {
     fn enter(&self, level: u32, second: bool);
 }
 
-/// How a recursion by halves goes on: at so many more levels its halves go to two threads, the first of
-/// which is `level`, and `fork` is told of each half.
+/// How a recursion by halves continues: at so many more levels its halves go to two threads, the first of
+/// which is `level`, and `fork` is called with each half.
 pub struct Forking<'a, F> {
     pub forks: u32,
     pub level: u32,

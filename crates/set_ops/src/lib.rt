@@ -19,12 +19,12 @@
 //! `insert_all` takes entries in place of the second set, `remove_all` ascending keys, and both refuse
 //! keys that do not ascend. The list is cut at the heads of the set, so that only the way down to the
 //! chunks that it reaches is made anew. A second set that has no head is taken as such a list too, and
-//! so is a first one: a union then goes on with the two exchanged, and keeps the first's weights.
+//! so is a first one: a union then continues with the two exchanged, and keeps the first's weights.
 //!
 //! `union_forked` and `difference_forked` give the same answers, with the halves on two threads at the
-//! first levels; a `Fork` is told of each half that begins. Only they need a handle of threads.
+//! first levels; a `Fork` is called with each half that begins. Only they need a handle of threads.
 //!
-//! Graphs stand on this crate, where a batch changes the neighbours of a vertex that has many. The recursion
+//! Graphs depend on this crate, where a batch changes the neighbours of a vertex that has many. The recursion
 //! is that of "Just Join for Parallel Ordered Sets" (Blelloch, Ferizovic, Sun, SPAA 2016) as Aspen has it
 //! on C-trees (PLDI 2019).
 #![tactic(auto)]

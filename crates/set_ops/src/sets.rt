@@ -45,7 +45,7 @@ pub fn difference(alloc: Global, first: &CTree, second: &CTree) -> Result<CTree,
 
 /// As [`union`], with the two halves on two threads at n levels, at most 6. Where no thread can
 /// be started, the caller does both halves. The answer is that of `union` whatever `forks` is.
-/// `fork` is told of each half that begins.
+/// `fork` is called with each half that begins.
 ///
 /// Errors: `ChunkSizesDiffer` where the sets have different chunk sizes, else `NoMemory`.
 pub fn union_forked<R: Threads + Sync, F: Fork + Sync>(
@@ -70,7 +70,7 @@ pub fn union_forked<R: Threads + Sync, F: Fork + Sync>(
 
 /// As [`difference`], with the two halves on two threads at n levels, at most 6. Where no thread
 /// can be started, the caller does both halves. The answer is that of `difference` whatever `forks`
-/// is. `fork` is told of each half that begins.
+/// is. `fork` is called with each half that begins.
 ///
 /// Errors: `ChunkSizesDiffer` where the sets have different chunk sizes, else `NoMemory`.
 pub fn difference_forked<R: Threads + Sync, F: Fork + Sync>(

@@ -12,7 +12,7 @@ use std::marker::Model;
 use version_list::Ticket;
 
 /// A version that is held by a ticket, and the history at whose end it was held, of which it is a
-/// version. It is not let go: give it to [`SharedGraph::release`](crate::SharedGraph::release), or
+/// version. It is not dropped: give it to [`SharedGraph::release`](crate::SharedGraph::release), or
 /// spend it by [`Held::into_snapshot`].
 pub struct Held<J: Naming> {
     ticket: Ticket,

@@ -13,12 +13,12 @@
 //! replay, and which is the one that was published. The versions have its entries since the last trim
 //! alone: a trim drops those before it there, and in no history that a reader shows.
 //!
-//! The history itself stands in the proofs alone (`logbook`): threads share its length, one word, and
+//! The history itself is in the proofs alone (`logbook`): threads share its length, one word, and
 //! each reader has a beginning of it. The newest version is published in two copies, of which readers
 //! take one while the writer changes the other (left-right, Ramalhete and Correia, 2015).
 //!
-//! Which graph a reader or a token belongs to is a type parameter, a [`Naming`]. It stands on
-//! `version_list`; `snapshot_runs` and `races` stand on it.
+//! Which graph a reader or a token belongs to is a type parameter, a [`Naming`]. It depends on
+//! `version_list`; `snapshot_runs` and `races` depend on it.
 #![tactic(auto)]
 
 mod book;

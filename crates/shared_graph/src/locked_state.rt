@@ -32,7 +32,7 @@ const MANY_ENTRIES: usize = 4096;
 /// At how many levels such a batch goes by halves on two threads.
 const FORKS: u32 = 2;
 
-/// The history as the log has it, and the versions, which stand in its replay, and whose own
+/// The history as the log has it, and the versions, which are in its replay, and whose own
 /// history has its last entries, those since the last trim. Contracts see it as the history.
 pub(crate) struct LockedState<J: Naming, R: Wait + Drop> {
     versions: Versions,

@@ -122,7 +122,7 @@ impl<R: Wait + Drop> Publisher<R> {
         Ok(reader)
     }
 
-    /// Publishes a value that goes on where what is published ends. Waits for readers that still
+    /// Publishes a value that continues where what is published ends. Waits for readers that still
     /// read the value before.
     pub(crate) fn publish(&mut self, next: Shown)
         requires { GoesOn self.old next }

@@ -17,7 +17,7 @@
 //!
 //! Values are of a type that is [`Share`]. The balance is that of Adelson-Velsky and Landis (1962),
 //! and `join` as the call on which others rest is from Blelloch, Ferizovic and Sun, "Just Join for
-//! Parallel Ordered Sets" (SPAA 2016). Sets in chunks and graphs stand on this crate.
+//! Parallel Ordered Sets" (SPAA 2016). Sets in chunks and graphs depend on this crate.
 #![tactic(auto)]
 
 mod change_all;

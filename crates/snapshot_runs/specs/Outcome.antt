@@ -15,7 +15,7 @@ use Rattle.snapshot_runs.specs.declared.error.LatestRunError.TheVariants.{BadWor
 abbrev pub IsOutcomeOn : Plan → Digraph → (turns : ℕ) → Outcome → Type 0
 IsOutcomeOn plan graph turns o = IsCompiled plan → o ≡ meaning (program_of plan) (graph_value graph) turns
 
--- the reader is as it was; where memory ran out, it may show a history that goes on where the one before ends
+-- the reader is as it was; if memory ran out, it may show a history that continues where the one before ends
 abbrev pub Leaves : State → LatestRunError → ReaderState → ReaderState → Type 0
 Leaves base BadWorkers old new = new ≡ old
 Leaves base Closed old new = new ≡ old

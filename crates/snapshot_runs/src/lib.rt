@@ -6,7 +6,7 @@
 //! with all that the reader had shown, whole where the newest version was asked for, and it does not depend on who commits, holds
 //! or releases meanwhile, on the number of workers, or on the schedule. `specs/Outcome.antt` says what an outcome on a graph is.
 //!
-//! It stands on `runner` and `shared_graph`, and uses nothing of them but their public contracts.
+//! It depends on `runner` and `shared_graph`, and uses nothing of them but their public contracts.
 #![tactic(auto)]
 
 mod error;

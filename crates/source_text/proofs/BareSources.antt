@@ -10,7 +10,7 @@ use Rattle.syntax.specs.declared.operators.Prefix.{Prefix}
 use Rattle.syntax.specs.declared.operators.Prefix.TheVariants as prefix
 use Rattle.syntax.specs.declared.operators.Relation.{Relation}
 use Rattle.syntax.specs.declared.operators.Relation.TheVariants as relation
-use Rattle.syntax.specs.Terminals.{Terminal, Identifier, Name, Text, Opening, OfKeyword, OfSymbol}
+use Rattle.syntax.specs.Terminals.{Terminal, Identifier, Name, Text, LeadingKeyword, OfKeyword, OfSymbol}
 use Rattle.syntax.specs.SourceTrees.{ExpressionTree, ConjunctionTree, ComparisonTree, SumTree, TermTree, UnaryTree, PrimaryTree, LastConjunction, ConjunctionThen, LastComparison, ComparisonThen}
 use Rattle.syntax.specs.SourceTrees.{OneSum, TwoSums, LastTerm, TermThen, LastUnary, UnaryThen, Bare, Signed, Literal, Truth, Variable, Entry, Size, Parentheses, EndsTree, InitialTree, NewSet, Load}
 use Rattle.syntax.specs.SourceTrees.{Vertices, OutDegrees, Filter, ApplyModified, Value, StatementKindTree, Declare, While, For, If, IfElse, Print, Assign, Reduce, SetEntry, ReduceEntry, AddVertex}
@@ -154,25 +154,25 @@ label_bare (Some label) rest = refl
 
 mutual
   action_bare : (action : StatementKindTree) → BareBefore action_before bare_action action
-  action_bare (Declare at p initial) rest = ap (λ o. Opening (keyword.Var) 0 ∷ o) (typed_bare (p) ((assigned_before (initial) (rest))))
-      ∙ ap (λ o. Opening (keyword.Var) 0 ∷ (typed_before (bare_parameter p) (o))) (assigned_bare (initial) (rest))
-  action_bare (While at test body) rest = ap (λ o. Opening (keyword.While) 0 ∷ o) (expression_bare (test) ((block_before (body) (OfKeyword keyword.End ∷ rest))))
-      ∙ ap (λ o. Opening (keyword.While) 0 ∷ (expression_terminals (bare_expression (test)) ++ (o))) (block_bare (body) (OfKeyword keyword.End ∷ rest))
-  action_bare (For at name first limit body) rest = ap (λ o. Opening (keyword.For) 0 ∷ Name (bare_name (name)) ∷ OfKeyword keyword.In ∷ o)
+  action_bare (Declare at p initial) rest = ap (λ o. LeadingKeyword (keyword.Var) 0 ∷ o) (typed_bare (p) ((assigned_before (initial) (rest))))
+      ∙ ap (λ o. LeadingKeyword (keyword.Var) 0 ∷ (typed_before (bare_parameter p) (o))) (assigned_bare (initial) (rest))
+  action_bare (While at test body) rest = ap (λ o. LeadingKeyword (keyword.While) 0 ∷ o) (expression_bare (test) ((block_before (body) (OfKeyword keyword.End ∷ rest))))
+      ∙ ap (λ o. LeadingKeyword (keyword.While) 0 ∷ (expression_terminals (bare_expression (test)) ++ (o))) (block_bare (body) (OfKeyword keyword.End ∷ rest))
+  action_bare (For at name first limit body) rest = ap (λ o. LeadingKeyword (keyword.For) 0 ∷ Name (bare_name (name)) ∷ OfKeyword keyword.In ∷ o)
       (expression_bare (first) (OfSymbol symbol.Colon ∷ (expression_terminals (limit) ++ ((block_before (body) (OfKeyword keyword.End ∷ rest))))))
-      ∙ ap (λ o. Opening (keyword.For) 0 ∷ Name (bare_name (name)) ∷ OfKeyword keyword.In ∷ (expression_terminals (bare_expression (first)) ++ (OfSymbol symbol.Colon ∷ o)))
+      ∙ ap (λ o. LeadingKeyword (keyword.For) 0 ∷ Name (bare_name (name)) ∷ OfKeyword keyword.In ∷ (expression_terminals (bare_expression (first)) ++ (OfSymbol symbol.Colon ∷ o)))
       (expression_bare (limit) ((block_before (body) (OfKeyword keyword.End ∷ rest))))
-      ∙ ap (λ o. Opening (keyword.For) 0 ∷ Name (bare_name (name)) ∷ OfKeyword keyword.In ∷
+      ∙ ap (λ o. LeadingKeyword (keyword.For) 0 ∷ Name (bare_name (name)) ∷ OfKeyword keyword.In ∷
       (expression_terminals (bare_expression (first)) ++ (OfSymbol symbol.Colon ∷ (expression_terminals (bare_expression (limit)) ++ (o))))) (block_bare (body) (OfKeyword keyword.End ∷ rest))
-  action_bare (If at test body) rest = ap (λ o. Opening (keyword.If) 0 ∷ o) (expression_bare (test) ((block_before (body) (OfKeyword keyword.End ∷ rest))))
-      ∙ ap (λ o. Opening (keyword.If) 0 ∷ (expression_terminals (bare_expression (test)) ++ (o))) (block_bare (body) (OfKeyword keyword.End ∷ rest))
-  action_bare (IfElse at test body otherwise) rest = ap (λ o. Opening (keyword.If) 0 ∷ o)
+  action_bare (If at test body) rest = ap (λ o. LeadingKeyword (keyword.If) 0 ∷ o) (expression_bare (test) ((block_before (body) (OfKeyword keyword.End ∷ rest))))
+      ∙ ap (λ o. LeadingKeyword (keyword.If) 0 ∷ (expression_terminals (bare_expression (test)) ++ (o))) (block_bare (body) (OfKeyword keyword.End ∷ rest))
+  action_bare (IfElse at test body otherwise) rest = ap (λ o. LeadingKeyword (keyword.If) 0 ∷ o)
       (expression_bare (test) ((block_before (body) (OfKeyword keyword.Else ∷ (block_before (otherwise) (OfKeyword keyword.End ∷ rest))))))
-      ∙ ap (λ o. Opening (keyword.If) 0 ∷ (expression_terminals (bare_expression (test)) ++ (o)))
+      ∙ ap (λ o. LeadingKeyword (keyword.If) 0 ∷ (expression_terminals (bare_expression (test)) ++ (o)))
       (block_bare (body) (OfKeyword keyword.Else ∷ (block_before (otherwise) (OfKeyword keyword.End ∷ rest))))
-      ∙ ap (λ o. Opening (keyword.If) 0 ∷ (expression_terminals (bare_expression (test)) ++ ((block_before (bare_block body) (OfKeyword keyword.Else ∷ o)))))
+      ∙ ap (λ o. LeadingKeyword (keyword.If) 0 ∷ (expression_terminals (bare_expression (test)) ++ ((block_before (bare_block body) (OfKeyword keyword.Else ∷ o)))))
       (block_bare (otherwise) (OfKeyword keyword.End ∷ rest))
-  action_bare (Print at value) rest = ap (λ o. Opening (keyword.Print) 0 ∷ o) (expression_bare (value) (OfSymbol symbol.Semicolon ∷ rest))
+  action_bare (Print at value) rest = ap (λ o. LeadingKeyword (keyword.Print) 0 ∷ o) (expression_bare (value) (OfSymbol symbol.Semicolon ∷ rest))
   action_bare (Assign name value) rest = ap (λ o. Name (bare_name (name)) ∷ o) (assigned_bare (value) (rest))
   action_bare (Reduce name reduction value) rest = ap (λ o. Name (bare_name (name)) ∷ o) (reduction_bare (reduction) ((expression_terminals (value) ++ (OfSymbol symbol.Semicolon ∷ rest))))
       ∙ ap (λ o. Name (bare_name (name)) ∷ (reduction_terminal (reduction) ∷ (o))) (expression_bare (value) (OfSymbol symbol.Semicolon ∷ rest))
@@ -215,13 +215,13 @@ result_bare None rest = refl
 result_bare (Some p) rest = ap (λ o. OfSymbol symbol.Arrow ∷ o) (typed_bare (p) (rest))
 
 declaration_bare : (d : DeclarationTree) → BareBefore declaration_before bare_declaration d
-declaration_bare (Constant at p initial) rest = ap (λ o. Opening (keyword.Const) 0 ∷ o) (typed_bare (p) ((assigned_before (initial) (rest))))
-    ∙ ap (λ o. Opening (keyword.Const) 0 ∷ (typed_before (bare_parameter p) (o))) (assigned_bare (initial) (rest))
-declaration_bare (Function at name parameters result body) rest = ap (λ o. Opening (keyword.Func) 0 ∷ Name (bare_name (name)) ∷ OfSymbol symbol.OpenParenthesis ∷ o)
+declaration_bare (Constant at p initial) rest = ap (λ o. LeadingKeyword (keyword.Const) 0 ∷ o) (typed_bare (p) ((assigned_before (initial) (rest))))
+    ∙ ap (λ o. LeadingKeyword (keyword.Const) 0 ∷ (typed_before (bare_parameter p) (o))) (assigned_bare (initial) (rest))
+declaration_bare (Function at name parameters result body) rest = ap (λ o. LeadingKeyword (keyword.Func) 0 ∷ Name (bare_name (name)) ∷ OfSymbol symbol.OpenParenthesis ∷ o)
     (parameters_bare (parameters) (OfSymbol symbol.CloseParenthesis ∷ (result_before (result) ((block_before (body) (OfKeyword keyword.End ∷ rest))))))
-    ∙ ap (λ o. Opening (keyword.Func) 0 ∷ Name (bare_name (name)) ∷ OfSymbol symbol.OpenParenthesis ∷ (parameters_before (map bare_parameter parameters) (OfSymbol symbol.CloseParenthesis ∷ o)))
+    ∙ ap (λ o. LeadingKeyword (keyword.Func) 0 ∷ Name (bare_name (name)) ∷ OfSymbol symbol.OpenParenthesis ∷ (parameters_before (map bare_parameter parameters) (OfSymbol symbol.CloseParenthesis ∷ o)))
     (result_bare (result) ((block_before (body) (OfKeyword keyword.End ∷ rest))))
-    ∙ ap (λ o. Opening (keyword.Func) 0 ∷ Name (bare_name (name)) ∷ OfSymbol symbol.OpenParenthesis ∷
+    ∙ ap (λ o. LeadingKeyword (keyword.Func) 0 ∷ Name (bare_name (name)) ∷ OfSymbol symbol.OpenParenthesis ∷
     (parameters_before (map bare_parameter parameters) (OfSymbol symbol.CloseParenthesis ∷ (result_before (option_map bare_parameter result) (o))))) (block_bare (body) (OfKeyword keyword.End ∷ rest))
 
 texts_bare : (texts : List (List ℕ)) (rest : List Terminal) → map bare (each_before next_text_before texts rest) ≡ each_before next_text_before texts (map bare rest)
@@ -229,7 +229,7 @@ texts_bare [] rest = refl
 texts_bare (text ∷ texts) rest = ap (λ o. OfSymbol symbol.Comma ∷ Text text ∷ o) (texts_bare texts rest)
 
 call_bare : (call : CallTree) → BareBefore call_before bare_call call
-call_bare call rest = ap (λ o. Opening (setting_keyword call.setting) 0 ∷ OfSymbol symbol.OpenParenthesis ∷ Text call.first ∷ o) (texts_bare (call.more) (OfSymbol symbol.CloseParenthesis ∷ rest))
+call_bare call rest = ap (λ o. LeadingKeyword (setting_keyword call.setting) 0 ∷ OfSymbol symbol.OpenParenthesis ∷ Text call.first ∷ o) (texts_bare (call.more) (OfSymbol symbol.CloseParenthesis ∷ rest))
 
 next_call_bare : (call : CallTree) → BareBefore next_call_before bare_call call
 next_call_bare call rest = ap (λ o. OfSymbol symbol.Arrow ∷ o) (call_bare (call) (rest))

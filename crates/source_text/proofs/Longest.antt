@@ -16,7 +16,7 @@ use Rattle.lexer.specs.Tokens.{IsWord, Lexeme, IsLongest}
 use Rattle.lexer.proofs.LongestLaws.{IsNoReduction, IsNoPair, word_longest, number_longest, label_longest, text_longest, reduction_longest, pair_longest, single_longest}
 use Rattle.lexer.proofs.ShapeLaws.{digit-not_white, letter-not_white}
 use Rattle.lexer.proofs.SpellingLaws.{keyword_spelling-IsWord}
-use Rattle.syntax.specs.Terminals.{Terminal, Name, Number, Label, Text, Opening, OfKeyword, OfSymbol}
+use Rattle.syntax.specs.Terminals.{Terminal, Name, Number, Label, Text, LeadingKeyword, OfKeyword, OfSymbol}
 use Rattle.source_text.specs.Text.{terminal_bytes, IsSpelled}
 
 -- the kind of token that a terminal is
@@ -25,7 +25,7 @@ kind_of (Name name) = kind.Name
 kind_of (Number n) = kind.Number n
 kind_of (Label label) = kind.Label
 kind_of (Text bytes) = kind.Text
-kind_of (Opening terminal at) = kind.Keyword terminal
+kind_of (LeadingKeyword terminal at) = kind.Keyword terminal
 kind_of (OfKeyword terminal) = kind.Keyword terminal
 kind_of (OfSymbol symbol) = kind.Symbol symbol
 
@@ -100,7 +100,7 @@ terminal_before (Name name) b is white rest =
 terminal_before (Number n) b is white rest = rw (is.2) (number_before is.0 b is.1 white rest)
 terminal_before (Label label) b is white rest = rw (is.2) (label_longest is.0 (b ∷ rest) is.1)
 terminal_before (Text bytes) b is white rest = rw (is.2) (text_longest is.0 (b ∷ rest) is.1)
-terminal_before (Opening terminal at) b is white rest =
+terminal_before (LeadingKeyword terminal at) b is white rest =
     word_longest (Lexeme (kind.Keyword terminal)) (keyword_spelling terminal) (b ∷ rest) (keyword_spelling-IsWord terminal) refl (white-not_terminal b white)
     (no_reduction (keyword_spelling terminal) rest b white)
 terminal_before (OfKeyword terminal) b is white rest =
@@ -126,6 +126,6 @@ first_not_white (Name name) more is = terminal_first name.bytes more is.0
 first_not_white (Number n) more is = rw (is.2) (digits_first (decimal is.0) more (decimal_nonempty is.0 (below is.0 is.1)) (digits_decimal digits_model is.0 (below is.0 is.1)))
 first_not_white (Label label) more is = rw (is.2) refl
 first_not_white (Text bytes) more is = rw (is.2) refl
-first_not_white (Opening terminal at) more is = terminal_first (keyword_spelling terminal) more (keyword_spelling-IsWord terminal)
+first_not_white (LeadingKeyword terminal at) more is = terminal_first (keyword_spelling terminal) more (keyword_spelling-IsWord terminal)
 first_not_white (OfKeyword terminal) more is = terminal_first (keyword_spelling terminal) more (keyword_spelling-IsWord terminal)
 first_not_white (OfSymbol symbol) more is = symbol_first symbol more

@@ -12,7 +12,7 @@ use Rattle.syntax.specs.declared.operators.Prefix.{Prefix}
 use Rattle.syntax.specs.declared.operators.Prefix.TheVariants as prefix
 use Rattle.syntax.specs.declared.operators.Relation.{Relation}
 use Rattle.syntax.specs.declared.operators.Relation.TheVariants as relation
-use Rattle.syntax.specs.Terminals.{Terminal, Identifier, Name, Number, Label, Text, Opening, OfKeyword, OfSymbol}
+use Rattle.syntax.specs.Terminals.{Terminal, Identifier, Name, Number, Label, Text, LeadingKeyword, OfKeyword, OfSymbol}
 use Rattle.syntax.specs.SourceTrees.{ExpressionTree, ConjunctionTree, ComparisonTree, SumTree, TermTree, UnaryTree, PrimaryTree, LastConjunction, ConjunctionThen, LastComparison, ComparisonThen}
 use Rattle.syntax.specs.SourceTrees.{OneSum, TwoSums, LastTerm, TermThen, LastUnary, UnaryThen, Bare, Signed, Literal, Truth, Variable, Entry, Size, Parentheses}
 use Rattle.syntax.specs.ExpressionSpelling.{addition_terminal, multiplication_terminal, relation_terminal, prefix_terminal, truth_terminal, expression_terminals, conjunction_terminals}
@@ -38,7 +38,7 @@ fixed_back (OfKeyword a) (OfKeyword b) fixed same = same
 fixed_back (OfSymbol a) (OfSymbol b) fixed same = same
 fixed_back w (Name b) fixed same = absurd (false≢true fixed)
 fixed_back w (Label b) fixed same = absurd (false≢true fixed)
-fixed_back w (Opening b at) fixed same = absurd (false≢true fixed)
+fixed_back w (LeadingKeyword b at) fixed same = absurd (false≢true fixed)
 fixed_back _ _ fixed same = cc (same)
 
 name_back : (w : Terminal) (i : Identifier) → bare w ≡ bare (Name i) → (j : Identifier) × (w ≡ Name j)
@@ -49,8 +49,8 @@ label_back : (w : Terminal) (i : Identifier) → bare w ≡ bare (Label i) → (
 label_back (Label j) i same = (j, refl)
 label_back _ i same = cc (same)
 
-opening_back : (w : Terminal) (terminal : Keyword) (at : ℕ) → bare w ≡ bare (Opening terminal at) → (to : ℕ) × (w ≡ Opening terminal to)
-opening_back (Opening other to) terminal at same = let e : other ≡ terminal = cc (same) in (to, ap (λ k. Opening k to) e)
+opening_back : (w : Terminal) (terminal : Keyword) (at : ℕ) → bare w ≡ bare (LeadingKeyword terminal at) → (to : ℕ) × (w ≡ LeadingKeyword terminal to)
+opening_back (LeadingKeyword other to) terminal at same = let e : other ≡ terminal = cc (same) in (to, ap (λ k. LeadingKeyword k to) e)
 opening_back _ terminal at same = cc (same)
 
 -- the first terminal, and the others
@@ -78,10 +78,10 @@ take_label i rest ws same =
     let back = label_back first.0 i (first.3) in
     (back.0, first.1, first.2 ∙ ap (λ w. w ∷ first.1) (back.1), first.4)
 
-pub take_opening : (terminal : Keyword) (at : ℕ) (rest ws : List Terminal) → AreAlike ws (Opening terminal at ∷ rest) → (to : ℕ) × (others : List Terminal) × (ws ≡ Opening terminal to ∷ others)
+pub take_leading_keyword : (terminal : Keyword) (at : ℕ) (rest ws : List Terminal) → AreAlike ws (LeadingKeyword terminal at ∷ rest) → (to : ℕ) × (others : List Terminal) × (ws ≡ LeadingKeyword terminal to ∷ others)
     × AreAlike others rest
-take_opening terminal at rest ws same =
-    let first = first_back (Opening terminal at) rest ws same in
+take_leading_keyword terminal at rest ws same =
+    let first = first_back (LeadingKeyword terminal at) rest ws same in
     let back = opening_back first.0 terminal at (first.3) in
     (back.0, first.1, first.2 ∙ ap (λ w. w ∷ first.1) (back.1), first.4)
 

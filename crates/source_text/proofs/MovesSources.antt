@@ -2,7 +2,7 @@
 use Rattle.std.proofs.Common.{◌≡◌, ℕ, true, List, [], ◌∷◌, ◌++◌, Option, Some, None, refl, ◌∙◌, ap}
 use Rattle.lexer.specs.declared.keyword.Keyword.TheVariants as keyword
 use Rattle.lexer.specs.declared.symbol.Symbol.TheVariants as symbol
-use Rattle.syntax.specs.Terminals.{Terminal, Identifier, Name, Number, Text, Opening, OfKeyword, OfSymbol}
+use Rattle.syntax.specs.Terminals.{Terminal, Identifier, Name, Number, Text, LeadingKeyword, OfKeyword, OfSymbol}
 use Rattle.syntax.specs.ExpressionSpelling.{expression_terminals}
 use Rattle.syntax.specs.declared.declaration.DeclaredType.{DeclaredType}
 use Rattle.syntax.specs.declared.declaration.DeclaredType.TheVariants as type
@@ -14,7 +14,7 @@ use Rattle.syntax.specs.SourceSpelling.{each_before, type_terminals, reduction_t
 use Rattle.syntax.specs.SourceSpelling.{action_before, block_before, next_parameter_before, parameters_before, result_before, declaration_before, setting_keyword, next_text_before, call_before}
 use Rattle.syntax.specs.SourceSpelling.{next_call_before, chain_before, schedule_before, source_terminals}
 use Rattle.source_text.specs.Text.{AreAlike}
-use Rattle.source_text.proofs.Moves.{all_fixed, take_fixed, take_name, take_label, take_opening, Moves, MovesTerminals, move_expression}
+use Rattle.source_text.proofs.Moves.{all_fixed, take_fixed, take_name, take_label, take_leading_keyword, Moves, MovesTerminals, move_expression}
 
 fixed_type : (d : DeclaredType) → all_fixed (type_terminals d) ≡ true
 fixed_type type.Int = refl
@@ -124,23 +124,23 @@ move_label (Some label) rest ws same =
 mutual
   move_action : (action : StatementKindTree) → Moves action_before action
   move_action (Declare at p initial) rest ws same =
-      let m0 = take_opening (keyword.Var) (at) ((typed_before (p) ((assigned_before (initial) (rest))))) ws same in
+      let m0 = take_leading_keyword (keyword.Var) (at) ((typed_before (p) ((assigned_before (initial) (rest))))) ws same in
       let m1 = move_typed (p) ((assigned_before (initial) (rest))) m0.1 m0.3 in
       let m2 = move_assigned (initial) (rest) m1.1 m1.3 in
-      (Declare m0.0 m1.0 m2.0, m2.1, (m0.2) ∙ ap (λ o. Opening (keyword.Var) (m0.0) ∷ o) (m1.2) ∙ ap (λ o. Opening (keyword.Var) (m0.0) ∷ (typed_before (m1.0) (o))) (m2.2), m2.3)
+      (Declare m0.0 m1.0 m2.0, m2.1, (m0.2) ∙ ap (λ o. LeadingKeyword (keyword.Var) (m0.0) ∷ o) (m1.2) ∙ ap (λ o. LeadingKeyword (keyword.Var) (m0.0) ∷ (typed_before (m1.0) (o))) (m2.2), m2.3)
   move_action (While at test body) rest ws same =
-      let m0 = take_opening (keyword.While) (at) ((expression_terminals (test) ++ ((block_before (body) (OfKeyword keyword.End ∷ rest))))) ws same in
+      let m0 = take_leading_keyword (keyword.While) (at) ((expression_terminals (test) ++ ((block_before (body) (OfKeyword keyword.End ∷ rest))))) ws same in
       let m1 = move_expression (test) ((block_before (body) (OfKeyword keyword.End ∷ rest))) m0.1 m0.3 in
       let m2 = move_block (body) (OfKeyword keyword.End ∷ rest) m1.1 m1.3 in
       let m3 = take_fixed (OfKeyword keyword.End ∷ []) (rest) m2.1 refl m2.3 in (
         While m0.0 m1.0 m2.0,
         m3.0,
-        (m0.2) ∙ ap (λ o. Opening (keyword.While) (m0.0) ∷ o) (m1.2) ∙ ap (λ o. Opening (keyword.While) (m0.0) ∷ (expression_terminals (m1.0) ++ (o))) (m2.2)
-            ∙ ap (λ o. Opening (keyword.While) (m0.0) ∷ (expression_terminals (m1.0) ++ ((block_before (m2.0) (o))))) (m3.1),
+        (m0.2) ∙ ap (λ o. LeadingKeyword (keyword.While) (m0.0) ∷ o) (m1.2) ∙ ap (λ o. LeadingKeyword (keyword.While) (m0.0) ∷ (expression_terminals (m1.0) ++ (o))) (m2.2)
+            ∙ ap (λ o. LeadingKeyword (keyword.While) (m0.0) ∷ (expression_terminals (m1.0) ++ ((block_before (m2.0) (o))))) (m3.1),
         m3.2,
       )
   move_action (For at name first limit body) rest ws same =
-      let m0 = take_opening (keyword.For) (at) (Name (name) ∷ OfKeyword keyword.In ∷
+      let m0 = take_leading_keyword (keyword.For) (at) (Name (name) ∷ OfKeyword keyword.In ∷
       (expression_terminals (first) ++ (OfSymbol symbol.Colon ∷ (expression_terminals (limit) ++ ((block_before (body) (OfKeyword keyword.End ∷ rest))))))) ws same in
       let m1 = take_name (name) (OfKeyword keyword.In ∷ (expression_terminals (first)
       ++ (OfSymbol symbol.Colon ∷ (expression_terminals (limit) ++ ((block_before (body) (OfKeyword keyword.End ∷ rest))))))) m0.1 m0.3 in
@@ -153,28 +153,28 @@ mutual
       let m7 = take_fixed (OfKeyword keyword.End ∷ []) (rest) m6.1 refl m6.3 in (
         For m0.0 m1.0 m3.0 m5.0 m6.0,
         m7.0,
-        (m0.2) ∙ ap (λ o. Opening (keyword.For) (m0.0) ∷ o) (m1.2) ∙ ap (λ o. Opening (keyword.For) (m0.0) ∷ Name (m1.0) ∷ o) (m2.1)
-            ∙ ap (λ o. Opening (keyword.For) (m0.0) ∷ Name (m1.0) ∷ OfKeyword keyword.In ∷ o) (m3.2)
-            ∙ ap (λ o. Opening (keyword.For) (m0.0) ∷ Name (m1.0) ∷ OfKeyword keyword.In ∷ (expression_terminals (m3.0) ++ (o))) (m4.1)
-            ∙ ap (λ o. Opening (keyword.For) (m0.0) ∷ Name (m1.0) ∷ OfKeyword keyword.In ∷ (expression_terminals (m3.0) ++ (OfSymbol symbol.Colon ∷ o))) (m5.2)
-            ∙ ap (λ o. Opening (keyword.For) (m0.0) ∷ Name (m1.0) ∷ OfKeyword keyword.In ∷ (expression_terminals (m3.0) ++ (OfSymbol symbol.Colon ∷ (expression_terminals (m5.0) ++ (o))))) (m6.2)
-            ∙ ap (λ o. Opening (keyword.For) (m0.0) ∷ Name (m1.0) ∷ OfKeyword keyword.In ∷
+        (m0.2) ∙ ap (λ o. LeadingKeyword (keyword.For) (m0.0) ∷ o) (m1.2) ∙ ap (λ o. LeadingKeyword (keyword.For) (m0.0) ∷ Name (m1.0) ∷ o) (m2.1)
+            ∙ ap (λ o. LeadingKeyword (keyword.For) (m0.0) ∷ Name (m1.0) ∷ OfKeyword keyword.In ∷ o) (m3.2)
+            ∙ ap (λ o. LeadingKeyword (keyword.For) (m0.0) ∷ Name (m1.0) ∷ OfKeyword keyword.In ∷ (expression_terminals (m3.0) ++ (o))) (m4.1)
+            ∙ ap (λ o. LeadingKeyword (keyword.For) (m0.0) ∷ Name (m1.0) ∷ OfKeyword keyword.In ∷ (expression_terminals (m3.0) ++ (OfSymbol symbol.Colon ∷ o))) (m5.2)
+            ∙ ap (λ o. LeadingKeyword (keyword.For) (m0.0) ∷ Name (m1.0) ∷ OfKeyword keyword.In ∷ (expression_terminals (m3.0) ++ (OfSymbol symbol.Colon ∷ (expression_terminals (m5.0) ++ (o))))) (m6.2)
+            ∙ ap (λ o. LeadingKeyword (keyword.For) (m0.0) ∷ Name (m1.0) ∷ OfKeyword keyword.In ∷
             (expression_terminals (m3.0) ++ (OfSymbol symbol.Colon ∷ (expression_terminals (m5.0) ++ ((block_before (m6.0) (o))))))) (m7.1),
         m7.2,
       )
   move_action (If at test body) rest ws same =
-      let m0 = take_opening (keyword.If) (at) ((expression_terminals (test) ++ ((block_before (body) (OfKeyword keyword.End ∷ rest))))) ws same in
+      let m0 = take_leading_keyword (keyword.If) (at) ((expression_terminals (test) ++ ((block_before (body) (OfKeyword keyword.End ∷ rest))))) ws same in
       let m1 = move_expression (test) ((block_before (body) (OfKeyword keyword.End ∷ rest))) m0.1 m0.3 in
       let m2 = move_block (body) (OfKeyword keyword.End ∷ rest) m1.1 m1.3 in
       let m3 = take_fixed (OfKeyword keyword.End ∷ []) (rest) m2.1 refl m2.3 in (
         If m0.0 m1.0 m2.0,
         m3.0,
-        (m0.2) ∙ ap (λ o. Opening (keyword.If) (m0.0) ∷ o) (m1.2) ∙ ap (λ o. Opening (keyword.If) (m0.0) ∷ (expression_terminals (m1.0) ++ (o))) (m2.2)
-            ∙ ap (λ o. Opening (keyword.If) (m0.0) ∷ (expression_terminals (m1.0) ++ ((block_before (m2.0) (o))))) (m3.1),
+        (m0.2) ∙ ap (λ o. LeadingKeyword (keyword.If) (m0.0) ∷ o) (m1.2) ∙ ap (λ o. LeadingKeyword (keyword.If) (m0.0) ∷ (expression_terminals (m1.0) ++ (o))) (m2.2)
+            ∙ ap (λ o. LeadingKeyword (keyword.If) (m0.0) ∷ (expression_terminals (m1.0) ++ ((block_before (m2.0) (o))))) (m3.1),
         m3.2,
       )
   move_action (IfElse at test body otherwise) rest ws same =
-      let m0 = take_opening (keyword.If) (at) ((expression_terminals (test) ++ ((block_before (body) (OfKeyword keyword.Else ∷ (block_before (otherwise) (OfKeyword keyword.End ∷ rest))))))) ws same in
+      let m0 = take_leading_keyword (keyword.If) (at) ((expression_terminals (test) ++ ((block_before (body) (OfKeyword keyword.Else ∷ (block_before (otherwise) (OfKeyword keyword.End ∷ rest))))))) ws same in
       let m1 = move_expression (test) ((block_before (body) (OfKeyword keyword.Else ∷ (block_before (otherwise) (OfKeyword keyword.End ∷ rest))))) m0.1 m0.3 in
       let m2 = move_block (body) (OfKeyword keyword.Else ∷ (block_before (otherwise) (OfKeyword keyword.End ∷ rest))) m1.1 m1.3 in
       let m3 = take_fixed (OfKeyword keyword.Else ∷ []) ((block_before (otherwise) (OfKeyword keyword.End ∷ rest))) m2.1 refl m2.3 in
@@ -182,17 +182,17 @@ mutual
       let m5 = take_fixed (OfKeyword keyword.End ∷ []) (rest) m4.1 refl m4.3 in (
         IfElse m0.0 m1.0 m2.0 m4.0,
         m5.0,
-        (m0.2) ∙ ap (λ o. Opening (keyword.If) (m0.0) ∷ o) (m1.2) ∙ ap (λ o. Opening (keyword.If) (m0.0) ∷ (expression_terminals (m1.0) ++ (o))) (m2.2)
-            ∙ ap (λ o. Opening (keyword.If) (m0.0) ∷ (expression_terminals (m1.0) ++ ((block_before (m2.0) (o))))) (m3.1)
-            ∙ ap (λ o. Opening (keyword.If) (m0.0) ∷ (expression_terminals (m1.0) ++ ((block_before (m2.0) (OfKeyword keyword.Else ∷ o))))) (m4.2)
-            ∙ ap (λ o. Opening (keyword.If) (m0.0) ∷ (expression_terminals (m1.0) ++ ((block_before (m2.0) (OfKeyword keyword.Else ∷ (block_before (m4.0) (o))))))) (m5.1),
+        (m0.2) ∙ ap (λ o. LeadingKeyword (keyword.If) (m0.0) ∷ o) (m1.2) ∙ ap (λ o. LeadingKeyword (keyword.If) (m0.0) ∷ (expression_terminals (m1.0) ++ (o))) (m2.2)
+            ∙ ap (λ o. LeadingKeyword (keyword.If) (m0.0) ∷ (expression_terminals (m1.0) ++ ((block_before (m2.0) (o))))) (m3.1)
+            ∙ ap (λ o. LeadingKeyword (keyword.If) (m0.0) ∷ (expression_terminals (m1.0) ++ ((block_before (m2.0) (OfKeyword keyword.Else ∷ o))))) (m4.2)
+            ∙ ap (λ o. LeadingKeyword (keyword.If) (m0.0) ∷ (expression_terminals (m1.0) ++ ((block_before (m2.0) (OfKeyword keyword.Else ∷ (block_before (m4.0) (o))))))) (m5.1),
         m5.2,
       )
   move_action (Print at value) rest ws same =
-      let m0 = take_opening (keyword.Print) (at) ((expression_terminals (value) ++ (OfSymbol symbol.Semicolon ∷ rest))) ws same in
+      let m0 = take_leading_keyword (keyword.Print) (at) ((expression_terminals (value) ++ (OfSymbol symbol.Semicolon ∷ rest))) ws same in
       let m1 = move_expression (value) (OfSymbol symbol.Semicolon ∷ rest) m0.1 m0.3 in
       let m2 = take_fixed (OfSymbol symbol.Semicolon ∷ []) (rest) m1.1 refl m1.3 in
-      (Print m0.0 m1.0, m2.0, (m0.2) ∙ ap (λ o. Opening (keyword.Print) (m0.0) ∷ o) (m1.2) ∙ ap (λ o. Opening (keyword.Print) (m0.0) ∷ (expression_terminals (m1.0) ++ (o))) (m2.1), m2.2)
+      (Print m0.0 m1.0, m2.0, (m0.2) ∙ ap (λ o. LeadingKeyword (keyword.Print) (m0.0) ∷ o) (m1.2) ∙ ap (λ o. LeadingKeyword (keyword.Print) (m0.0) ∷ (expression_terminals (m1.0) ++ (o))) (m2.1), m2.2)
   move_action (Assign name value) rest ws same =
       let m0 = take_name (name) ((assigned_before (value) (rest))) ws same in
       let m1 = move_assigned (value) (rest) m0.1 m0.3 in
@@ -311,12 +311,12 @@ move_result (Some p) rest ws same =
 
 move_declaration : (d : DeclarationTree) → Moves declaration_before d
 move_declaration (Constant at p initial) rest ws same =
-    let m0 = take_opening (keyword.Const) (at) ((typed_before (p) ((assigned_before (initial) (rest))))) ws same in
+    let m0 = take_leading_keyword (keyword.Const) (at) ((typed_before (p) ((assigned_before (initial) (rest))))) ws same in
     let m1 = move_typed (p) ((assigned_before (initial) (rest))) m0.1 m0.3 in
     let m2 = move_assigned (initial) (rest) m1.1 m1.3 in
-    (Constant m0.0 m1.0 m2.0, m2.1, (m0.2) ∙ ap (λ o. Opening (keyword.Const) (m0.0) ∷ o) (m1.2) ∙ ap (λ o. Opening (keyword.Const) (m0.0) ∷ (typed_before (m1.0) (o))) (m2.2), m2.3)
+    (Constant m0.0 m1.0 m2.0, m2.1, (m0.2) ∙ ap (λ o. LeadingKeyword (keyword.Const) (m0.0) ∷ o) (m1.2) ∙ ap (λ o. LeadingKeyword (keyword.Const) (m0.0) ∷ (typed_before (m1.0) (o))) (m2.2), m2.3)
 move_declaration (Function at name parameters result body) rest ws same =
-    let m0 = take_opening (keyword.Func) (at) (Name (name) ∷ OfSymbol symbol.OpenParenthesis ∷
+    let m0 = take_leading_keyword (keyword.Func) (at) (Name (name) ∷ OfSymbol symbol.OpenParenthesis ∷
     (parameters_before (parameters) (OfSymbol symbol.CloseParenthesis ∷ (result_before (result) ((block_before (body) (OfKeyword keyword.End ∷ rest))))))) ws same in
     let m1 = take_name (name) (OfSymbol symbol.OpenParenthesis ∷ (parameters_before (parameters)
     (OfSymbol symbol.CloseParenthesis ∷ (result_before (result) ((block_before (body) (OfKeyword keyword.End ∷ rest))))))) m0.1 m0.3 in
@@ -329,12 +329,12 @@ move_declaration (Function at name parameters result body) rest ws same =
     let m7 = take_fixed (OfKeyword keyword.End ∷ []) (rest) m6.1 refl m6.3 in (
       Function m0.0 m1.0 m3.0 m5.0 m6.0,
       m7.0,
-      (m0.2) ∙ ap (λ o. Opening (keyword.Func) (m0.0) ∷ o) (m1.2) ∙ ap (λ o. Opening (keyword.Func) (m0.0) ∷ Name (m1.0) ∷ o) (m2.1)
-          ∙ ap (λ o. Opening (keyword.Func) (m0.0) ∷ Name (m1.0) ∷ OfSymbol symbol.OpenParenthesis ∷ o) (m3.2)
-          ∙ ap (λ o. Opening (keyword.Func) (m0.0) ∷ Name (m1.0) ∷ OfSymbol symbol.OpenParenthesis ∷ (parameters_before (m3.0) (o))) (m4.1)
-          ∙ ap (λ o. Opening (keyword.Func) (m0.0) ∷ Name (m1.0) ∷ OfSymbol symbol.OpenParenthesis ∷ (parameters_before (m3.0) (OfSymbol symbol.CloseParenthesis ∷ o))) (m5.2)
-          ∙ ap (λ o. Opening (keyword.Func) (m0.0) ∷ Name (m1.0) ∷ OfSymbol symbol.OpenParenthesis ∷ (parameters_before (m3.0) (OfSymbol symbol.CloseParenthesis ∷ (result_before (m5.0) (o))))) (m6.2)
-          ∙ ap (λ o. Opening (keyword.Func) (m0.0) ∷ Name (m1.0) ∷ OfSymbol symbol.OpenParenthesis ∷
+      (m0.2) ∙ ap (λ o. LeadingKeyword (keyword.Func) (m0.0) ∷ o) (m1.2) ∙ ap (λ o. LeadingKeyword (keyword.Func) (m0.0) ∷ Name (m1.0) ∷ o) (m2.1)
+          ∙ ap (λ o. LeadingKeyword (keyword.Func) (m0.0) ∷ Name (m1.0) ∷ OfSymbol symbol.OpenParenthesis ∷ o) (m3.2)
+          ∙ ap (λ o. LeadingKeyword (keyword.Func) (m0.0) ∷ Name (m1.0) ∷ OfSymbol symbol.OpenParenthesis ∷ (parameters_before (m3.0) (o))) (m4.1)
+          ∙ ap (λ o. LeadingKeyword (keyword.Func) (m0.0) ∷ Name (m1.0) ∷ OfSymbol symbol.OpenParenthesis ∷ (parameters_before (m3.0) (OfSymbol symbol.CloseParenthesis ∷ o))) (m5.2)
+          ∙ ap (λ o. LeadingKeyword (keyword.Func) (m0.0) ∷ Name (m1.0) ∷ OfSymbol symbol.OpenParenthesis ∷ (parameters_before (m3.0) (OfSymbol symbol.CloseParenthesis ∷ (result_before (m5.0) (o))))) (m6.2)
+          ∙ ap (λ o. LeadingKeyword (keyword.Func) (m0.0) ∷ Name (m1.0) ∷ OfSymbol symbol.OpenParenthesis ∷
           (parameters_before (m3.0) (OfSymbol symbol.CloseParenthesis ∷ (result_before (m5.0) ((block_before (m6.0) (o))))))) (m7.1),
       m7.2,
     )
@@ -346,16 +346,16 @@ move_next_text text rest ws same =
 
 move_call : (call : CallTree) → Moves call_before call
 move_call call rest ws same =
-    let m0 = take_opening (setting_keyword call.setting) (call.at) (OfSymbol symbol.OpenParenthesis ∷ Text call.first ∷
+    let m0 = take_leading_keyword (setting_keyword call.setting) (call.at) (OfSymbol symbol.OpenParenthesis ∷ Text call.first ∷
     (each_before next_text_before (call.more) (OfSymbol symbol.CloseParenthesis ∷ rest))) ws same in
     let m1 = take_fixed (OfSymbol symbol.OpenParenthesis ∷ Text call.first ∷ []) ((each_before next_text_before (call.more) (OfSymbol symbol.CloseParenthesis ∷ rest))) m0.1 refl m0.3 in
     let m2 = move_each next_text_before move_next_text (call.more) (OfSymbol symbol.CloseParenthesis ∷ rest) m1.0 m1.2 in
     let m3 = take_fixed (OfSymbol symbol.CloseParenthesis ∷ []) (rest) m2.1 refl m2.3 in (
       record { at = m0.0; setting = call.setting; first = call.first; more = m2.0 },
       m3.0,
-      (m0.2) ∙ ap (λ o. Opening (setting_keyword call.setting) (m0.0) ∷ o) (m1.1)
-          ∙ ap (λ o. Opening (setting_keyword call.setting) (m0.0) ∷ OfSymbol symbol.OpenParenthesis ∷ Text call.first ∷ o) (m2.2)
-          ∙ ap (λ o. Opening (setting_keyword call.setting) (m0.0) ∷ OfSymbol symbol.OpenParenthesis ∷ Text call.first ∷ (each_before next_text_before (m2.0) (o))) (m3.1),
+      (m0.2) ∙ ap (λ o. LeadingKeyword (setting_keyword call.setting) (m0.0) ∷ o) (m1.1)
+          ∙ ap (λ o. LeadingKeyword (setting_keyword call.setting) (m0.0) ∷ OfSymbol symbol.OpenParenthesis ∷ Text call.first ∷ o) (m2.2)
+          ∙ ap (λ o. LeadingKeyword (setting_keyword call.setting) (m0.0) ∷ OfSymbol symbol.OpenParenthesis ∷ Text call.first ∷ (each_before next_text_before (m2.0) (o))) (m3.1),
       m3.2,
     )
 

@@ -1,6 +1,6 @@
 -- What is written of a source is read as that source.
 use Rattle.std.proofs.Common.{◌≡◌, ℕ, ◌≤◌, List, [], ◌∷◌, map, Result, Ok, Err, refl, sym, ◌∙◌, ap, subst}
-use Rattle.syntax.specs.Terminals.{Terminal, Name, Number, Label, Text, Opening, OfKeyword, OfSymbol, terminals_of}
+use Rattle.syntax.specs.Terminals.{Terminal, Name, Number, Label, Text, LeadingKeyword, OfKeyword, OfSymbol, terminals_of}
 use Rattle.syntax.specs.Nesting.{limit, nesting_after, StaysWithin}
 use Rattle.syntax.specs.SourceSpelling.{source_terminals}
 use Rattle.syntax.specs.SourceTrees.{SourceTree}
@@ -23,7 +23,7 @@ bare_nesting (Name name) n = refl
 bare_nesting (Number m) n = refl
 bare_nesting (Label label) n = refl
 bare_nesting (Text bytes) n = refl
-bare_nesting (Opening terminal at) n = refl
+bare_nesting (LeadingKeyword terminal at) n = refl
 bare_nesting (OfKeyword terminal) n = refl
 bare_nesting (OfSymbol symbol) n = refl
 

@@ -10,7 +10,7 @@ use Rattle.lexer.specs.inside.Runs.{EndsRun}
 use Rattle.lexer.specs.Tokens.{White, Lexeme, Piece, IsSmall, AreSmall, AreLongest, IsReadUpTo, bytes_of, tokens_from, slice_of}
 use Rattle.lexer.proofs.LongestLaws.{white_longest}
 use Rattle.lexer.proofs.OrderLaws.{slice_between}
-use Rattle.syntax.specs.Terminals.{Terminal, Name, Number, Label, Text, Opening, OfKeyword, OfSymbol, keyword_terminal, terminal_of, terminals_of}
+use Rattle.syntax.specs.Terminals.{Terminal, Name, Number, Label, Text, LeadingKeyword, OfKeyword, OfSymbol, keyword_terminal, terminal_of, terminals_of}
 use Rattle.source_text.specs.Text.{terminal_bytes, keyword_gap, symbol_gap, gap_after, text_of, IsSpelled, AreSpelled, bare, AreAlike, HasTerminals}
 use Rattle.source_text.proofs.Longest.{kind_of, terminal_before, first_not_white}
 
@@ -24,7 +24,7 @@ white_symbol symbol.Semicolon = refl
 white_symbol _ = refl
 
 white_gap : (w : Terminal) → is_white (gap_after w) ≡ true
-white_gap (Opening terminal at) = white_keyword terminal
+white_gap (LeadingKeyword terminal at) = white_keyword terminal
 white_gap (OfKeyword terminal) = white_keyword terminal
 white_gap (OfSymbol symbol) = white_symbol symbol
 white_gap _ = refl
@@ -55,7 +55,7 @@ is_small (Number n) is = rw (is.2) (let small = is.1 in omega (arith, ints))
 is_small (Name name) is = tt
 is_small (Label label) is = tt
 is_small (Text bytes) is = tt
-is_small (Opening terminal at) is = tt
+is_small (LeadingKeyword terminal at) is = tt
 is_small (OfKeyword terminal) is = tt
 is_small (OfSymbol symbol) is = tt
 
@@ -80,7 +80,7 @@ terminal_again (Name name) at is = refl
 terminal_again (Number n) at is = refl
 terminal_again (Label label) at is = refl
 terminal_again (Text bytes) at is = refl
-terminal_again (Opening terminal from) at is = bare_keyword terminal at ∙ is
+terminal_again (LeadingKeyword terminal from) at is = bare_keyword terminal at ∙ is
 terminal_again (OfKeyword terminal) at is = bare_keyword terminal at ∙ is
 terminal_again (OfSymbol symbol) at is = refl
 

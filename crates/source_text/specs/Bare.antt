@@ -1,4 +1,4 @@
--- Sources without the offsets that stand in them: each is 0.
+-- Sources without the offsets that are in them: each is 0.
 use Rattle.std.specs.Prelude.{map, option_map}
 use Rattle.syntax.specs.Terminals.{Identifier}
 use Rattle.syntax.specs.SourceTrees.{ExpressionTree, ConjunctionTree, ComparisonTree, SumTree, TermTree, UnaryTree, PrimaryTree, LastConjunction}

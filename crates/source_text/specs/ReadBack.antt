@@ -13,7 +13,7 @@ pub record IsWritable (source : SourceTree) : Type 0 where
   pub spelled : AreSpelled (source_terminals source)
   pub within : StaysWithin limit 0 (source_terminals source)
 
--- two sources are the same, but for the offsets that stand in them
+-- two sources are the same, but for the offsets that are in them
 abbrev pub AreSame : SourceTree → SourceTree → Type 0
 AreSame source other = bare_source source ≡ bare_source other
 

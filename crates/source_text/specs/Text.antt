@@ -10,7 +10,7 @@ use Rattle.lexer.specs.declared.token.Token.{Token}
 use Rattle.lexer.specs.declared.token.TokenKind.TheVariants as kind
 use Rattle.lexer.specs.Spelling.{keyword_spelling, symbol_spelling}
 use Rattle.lexer.specs.Tokens.{IsName, IsToken, HasTokens}
-use Rattle.syntax.specs.Terminals.{Terminal, Name, Number, Label, Text, Opening, OfKeyword, OfSymbol, keyword_terminal, terminals_of}
+use Rattle.syntax.specs.Terminals.{Terminal, Name, Number, Label, Text, LeadingKeyword, OfKeyword, OfSymbol, keyword_terminal, terminals_of}
 
 -- the bytes of a terminal
 abbrev pub terminal_bytes : Terminal → List ℕ
@@ -18,7 +18,7 @@ terminal_bytes (Name name) = name.bytes
 terminal_bytes (Number n) = signed_decimal n
 terminal_bytes (Label label) = label.bytes
 terminal_bytes (Text bytes) = bytes
-terminal_bytes (Opening terminal at) = keyword_spelling terminal
+terminal_bytes (LeadingKeyword terminal at) = keyword_spelling terminal
 terminal_bytes (OfKeyword terminal) = keyword_spelling terminal
 terminal_bytes (OfSymbol symbol) = symbol_spelling symbol
 
@@ -32,7 +32,7 @@ symbol_gap symbol.Semicolon = 10
 symbol_gap _ = 32
 
 abbrev pub gap_after : Terminal → ℕ
-gap_after (Opening terminal at) = keyword_gap terminal
+gap_after (LeadingKeyword terminal at) = keyword_gap terminal
 gap_after (OfKeyword terminal) = keyword_gap terminal
 gap_after (OfSymbol symbol) = symbol_gap symbol
 gap_after _ = 32
@@ -49,7 +49,7 @@ IsSpelled (Name name) = IsName name.bytes
 IsSpelled (Number n) = (m : ℕ) × (m ≤ 9223372036854775807) × (n ≡ pos m)
 IsSpelled (Label label) = IsToken kind.Label label.bytes
 IsSpelled (Text bytes) = IsToken kind.Text bytes
-IsSpelled (Opening terminal at) = keyword_terminal terminal 0 ≡ Opening terminal 0
+IsSpelled (LeadingKeyword terminal at) = keyword_terminal terminal 0 ≡ LeadingKeyword terminal 0
 IsSpelled (OfKeyword terminal) = keyword_terminal terminal 0 ≡ OfKeyword terminal
 IsSpelled (OfSymbol symbol) = Unit {0}
 
@@ -62,7 +62,7 @@ bare (Name name) = Name (record { bytes = name.bytes; at = 0 })
 bare (Number n) = Number n
 bare (Label label) = Label (record { bytes = label.bytes; at = 0 })
 bare (Text bytes) = Text bytes
-bare (Opening terminal at) = Opening terminal 0
+bare (LeadingKeyword terminal at) = LeadingKeyword terminal 0
 bare (OfKeyword terminal) = OfKeyword terminal
 bare (OfSymbol symbol) = OfSymbol symbol
 

@@ -7,7 +7,7 @@
 //!
 //! A source is writable where its terminals are tokens and nest within the limit (`specs/ReadBack.antt`). What is
 //! written of one is a source for the parser, has no other answer, and is the same source but for the offsets
-//! that stand in it (`specs/Bare.antt`). [`parsed_sources_are_writable`] is the law that each source that a text is is writable, and
+//! that are in it (`specs/Bare.antt`). [`parsed_sources_are_writable`] is the law that each source that a text is is writable, and
 //! [`terminals_are_read_back`] the law that the text of terminals has these terminals as its tokens; they do nothing when
 //! called.
 //!

@@ -1,6 +1,6 @@
 //! The schedule's part of a source.
 ghost use Rattle.std.specs.Prelude.{ℕ, ◌∷◌, map, option_map, OnOk};
-ghost use Rattle.syntax.specs.Terminals.{Opening};
+ghost use Rattle.syntax.specs.Terminals.{LeadingKeyword};
 ghost use Rattle.syntax.specs.SourceSpelling.{call_before, chain_before, each_before, next_call_before, next_text_before, schedule_before, setting_keyword};
 ghost use Rattle.syntax.specs.SourceViews.{call_tree, chain_tree, text_of};
 ghost use Rattle.source_text.specs.inside.Written.{Puts, chains_tree};
@@ -87,7 +87,7 @@ fn put_next_text(out: &mut Vec<u8>, text: &QuotedText) -> Result<(), AllocError>
 
 /// Puts the name of a call down.
 fn put_setting(out: &mut Vec<u8>, setting: Setting) -> Result<(), AllocError>
-    ensures { OnOk result ((at : ℕ) → Puts (λ rest. Opening (setting_keyword setting) at ∷ rest) out.old.items out.new.items) }
+    ensures { OnOk result ((at : ℕ) → Puts (λ rest. LeadingKeyword (setting_keyword setting) at ∷ rest) out.old.items out.new.items) }
 {
     match setting {
         Setting::Direction => put_keyword(out, Keyword::ConfigApplyDirection),

@@ -2,7 +2,7 @@
 ghost use Rattle.std.specs.Prelude.{ℕ, ◌++◌, ◌∷◌, OnOk};
 ghost use Rattle.lexer.specs.declared.keyword.Keyword.TheVariants as keyword;
 ghost use Rattle.lexer.specs.declared.symbol.Symbol.TheVariants as symbol;
-ghost use Rattle.syntax.specs.Terminals.{OfSymbol, Name as terminal_name, Opening, OfKeyword};
+ghost use Rattle.syntax.specs.Terminals.{OfSymbol, Name as terminal_name, LeadingKeyword, OfKeyword};
 ghost use Rattle.syntax.specs.ExpressionSpelling.{expression_terminals};
 ghost use Rattle.syntax.specs.SourceSpelling.{action_before, block_before, label_terminals};
 ghost use Rattle.syntax.specs.SourceViews.{statement_kind_tree, block_tree};
@@ -84,7 +84,7 @@ fn put_to_end(out: &mut Vec<u8>, block: &[Statement]) -> Result<(), AllocError>
 
 /// Puts the keyword of a loop or a choice and its test down.
 fn put_test(out: &mut Vec<u8>, keyword: Keyword, test: &Expression) -> Result<(), AllocError>
-    ensures { OnOk result ((at : ℕ) → Puts (λ rest. Opening keyword at ∷ (expression_terminals test.now ++ rest)) out.old.items out.new.items) }
+    ensures { OnOk result ((at : ℕ) → Puts (λ rest. LeadingKeyword keyword at ∷ (expression_terminals test.now ++ rest)) out.old.items out.new.items) }
 {
     put_keyword(out, keyword)?;
     put_expression(out, test)
@@ -97,7 +97,7 @@ fn put_range(
     first: &Expression,
     limit: &Expression,
 ) -> Result<(), AllocError>
-    ensures { OnOk result ((at : ℕ) → Puts (λ rest. Opening keyword.For at ∷ terminal_name name.now ∷ OfKeyword keyword.In
+    ensures { OnOk result ((at : ℕ) → Puts (λ rest. LeadingKeyword keyword.For at ∷ terminal_name name.now ∷ OfKeyword keyword.In
         ∷ (expression_terminals first.now ++ OfSymbol symbol.Colon ∷ (expression_terminals limit.now ++ rest))) out.old.items out.new.items) }
 {
     put_keyword(out, Keyword::For)?;

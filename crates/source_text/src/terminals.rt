@@ -1,7 +1,7 @@
 //! Terminals as text.
 ghost use Rattle.std.specs.Prelude.{◌≡◌, ◌++◌, ℕ, List, [], ◌∷◌, OnOk};
 ghost use Rattle.lexer.specs.Spelling.{symbol_spelling};
-ghost use Rattle.syntax.specs.Terminals.{Terminal, Label as label_terminal, OfSymbol, Name as name_terminal, Number, Opening, OfKeyword, Text as text_terminal};
+ghost use Rattle.syntax.specs.Terminals.{Terminal, Label as label_terminal, OfSymbol, Name as name_terminal, Number, LeadingKeyword, OfKeyword, Text as text_terminal};
 ghost use Rattle.source_text.specs.Text.{text_of, keyword_gap, symbol_gap, AreSpelled, HasTerminals};
 ghost use Rattle.source_text.specs.inside.Written.{Puts};
 
@@ -48,7 +48,7 @@ pub(crate) fn put_number(out: &mut Vec<u8>, number: &i64) -> Result<(), AllocErr
 
 /// Puts a keyword down.
 pub(crate) fn put_keyword(out: &mut Vec<u8>, keyword: Keyword) -> Result<(), AllocError>
-    ensures opening { OnOk result ((at : ℕ) → Puts (λ rest. Opening keyword at ∷ rest) out.old.items out.new.items) }
+    ensures statement_keyword { OnOk result ((at : ℕ) → Puts (λ rest. LeadingKeyword keyword at ∷ rest) out.old.items out.new.items) }
     ensures reserved { OnOk result (Puts (λ rest. OfKeyword keyword ∷ rest) out.old.items out.new.items) }
 {
     put(out, keyword.spelling(), gap_after_keyword(keyword))
@@ -70,7 +70,7 @@ fn put(out: &mut Vec<u8>, bytes: &[u8], gap: u8) -> Result<(), AllocError>
     Ok(())
 }
 
-/// What stands after a keyword: the end of a line after `end`.
+/// What is after a keyword: the end of a line after `end`.
 fn gap_after_keyword(keyword: Keyword) -> u8
     ensures { result ≡ keyword_gap keyword }
 {
@@ -80,7 +80,7 @@ fn gap_after_keyword(keyword: Keyword) -> u8
     }
 }
 
-/// What stands after a symbol: the end of a line after `;`.
+/// What is after a symbol: the end of a line after `;`.
 fn gap_after_symbol(symbol: Symbol) -> u8
     ensures { result ≡ symbol_gap symbol }
 {

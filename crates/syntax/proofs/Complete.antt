@@ -1,7 +1,7 @@
 -- What is spelled is read: simple classes.
 use Rattle.std.proofs.Common.{◌≡◌, refl, ◌∙◌, ap, arith, List, [], ◌∷◌, ◌++◌, Option, Some, None, ℕ, zero, suc, ◌<◌, ◌≤◌, ◌+◌, length}
 use Rattle.lexer.specs.declared.symbol.Symbol.TheVariants as symbol
-use Rattle.syntax.specs.Terminals.{Terminal, Text, Opening, OfSymbol}
+use Rattle.syntax.specs.Terminals.{Terminal, Text, LeadingKeyword, OfSymbol}
 use Rattle.syntax.specs.Nesting.{◌>>=◌}
 use Rattle.syntax.specs.ExpressionReading.{links_by, linked}
 use Rattle.syntax.specs.declared.declaration.DeclaredType.{DeclaredType}
@@ -90,7 +90,7 @@ parameters_complete (p ∷ others) rest =
 
 -- the first terminals of a call
 setting_step : (setting : Setting) (at : ℕ) (first : List ℕ) (rest : List Terminal)
-    → call_at (Opening (setting_keyword setting) at ∷ OfSymbol symbol.OpenParenthesis ∷ Text first ∷ rest)
+    → call_at (LeadingKeyword (setting_keyword setting) at ∷ OfSymbol symbol.OpenParenthesis ∷ Text first ∷ rest)
     ≡ (each_at next_text rest >>= λ more. closed_by (OfSymbol symbol.CloseParenthesis ∷ []) (record { at = at; setting = setting; first = first; more = more.0 }, more.1))
 setting_step setting.Direction at first rest = refl
 setting_step _ at first rest = refl

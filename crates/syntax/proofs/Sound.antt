@@ -2,7 +2,7 @@
 use Rattle.std.proofs.Common.{◌≡◌, refl, ◌∙◌, ap, List, [], ◌∷◌, ◌++◌, Option, Some, None, ℕ, zero, suc, length}
 use Rattle.lexer.specs.declared.keyword.Keyword.TheVariants as keyword
 use Rattle.lexer.specs.declared.symbol.Symbol.TheVariants as symbol
-use Rattle.syntax.specs.Terminals.{Terminal, Name, Number, Text, Opening, OfKeyword, OfSymbol}
+use Rattle.syntax.specs.Terminals.{Terminal, Name, Number, Text, LeadingKeyword, OfKeyword, OfSymbol}
 use Rattle.syntax.specs.ExpressionReading.{Reader, links_by, linked, after_by}
 use Rattle.syntax.specs.declared.declaration.DeclaredType.{DeclaredType}
 use Rattle.syntax.specs.declared.declaration.DeclaredType.TheVariants as type
@@ -142,12 +142,12 @@ result_sound ws (Some after) there p rest is =
     after_terminal-sound (OfSymbol symbol.Arrow) ws after there ∙ ap (λ r. OfSymbol symbol.Arrow ∷ r) (typed_sound after t.0.0 t.0.1 t.1)
     ∙ same_before result_before (Some t.0.0) p t.0.1 rest t.2
 
-setting_sound : IsSound setting_at (λ s rest. Opening (setting_keyword s.1) s.0 ∷ rest)
-setting_sound (Opening keyword.ConfigApplyDirection at ∷ ws) s rest is = same_before (λ s rest. Opening (setting_keyword s.1) s.0 ∷ rest) (at, setting.Direction) s ws rest is
-setting_sound (Opening keyword.ConfigApplyParallelization at ∷ ws) s rest is = same_before (λ s rest. Opening (setting_keyword s.1) s.0 ∷ rest) (at, setting.Parallelization) s ws rest is
-setting_sound (Opening keyword.ConfigApplyDenseVertexSet at ∷ ws) s rest is = same_before (λ s rest. Opening (setting_keyword s.1) s.0 ∷ rest) (at, setting.DenseVertexSet) s ws rest is
-setting_sound (Opening keyword.FuseApplyFunctions at ∷ ws) s rest is = same_before (λ s rest. Opening (setting_keyword s.1) s.0 ∷ rest) (at, setting.FuseFunctions) s ws rest is
-setting_sound (Opening keyword.FuseFields at ∷ ws) s rest is = same_before (λ s rest. Opening (setting_keyword s.1) s.0 ∷ rest) (at, setting.FuseFields) s ws rest is
+setting_sound : IsSound setting_at (λ s rest. LeadingKeyword (setting_keyword s.1) s.0 ∷ rest)
+setting_sound (LeadingKeyword keyword.ConfigApplyDirection at ∷ ws) s rest is = same_before (λ s rest. LeadingKeyword (setting_keyword s.1) s.0 ∷ rest) (at, setting.Direction) s ws rest is
+setting_sound (LeadingKeyword keyword.ConfigApplyParallelization at ∷ ws) s rest is = same_before (λ s rest. LeadingKeyword (setting_keyword s.1) s.0 ∷ rest) (at, setting.Parallelization) s ws rest is
+setting_sound (LeadingKeyword keyword.ConfigApplyDenseVertexSet at ∷ ws) s rest is = same_before (λ s rest. LeadingKeyword (setting_keyword s.1) s.0 ∷ rest) (at, setting.DenseVertexSet) s ws rest is
+setting_sound (LeadingKeyword keyword.FuseApplyFunctions at ∷ ws) s rest is = same_before (λ s rest. LeadingKeyword (setting_keyword s.1) s.0 ∷ rest) (at, setting.FuseFunctions) s ws rest is
+setting_sound (LeadingKeyword keyword.FuseFields at ∷ ws) s rest is = same_before (λ s rest. LeadingKeyword (setting_keyword s.1) s.0 ∷ rest) (at, setting.FuseFields) s ws rest is
 setting_sound _ s rest is = cc is
 
 next_text_sound : (ws : List Terminal) (t : List ℕ) (rest : List Terminal) → next_text ws ≡ Some (Some (t, rest)) → ws ≡ next_text_before t rest
@@ -159,10 +159,10 @@ call_sound ws call rest is =
     let a = bind_some (after_terminal (OfSymbol symbol.OpenParenthesis) s.0.1) _ _ s.2 in
     let t = bind_some (text_at a.0) _ _ a.2 in
     let more = bind_some (each_at next_text t.0.1) _ _ t.2 in
-    let front : List Terminal → List Terminal = λ r. Opening (setting_keyword s.0.0.1) s.0.0.0 ∷ OfSymbol symbol.OpenParenthesis ∷ Text t.0.0 ∷ r in
+    let front : List Terminal → List Terminal = λ r. LeadingKeyword (setting_keyword s.0.0.1) s.0.0.0 ∷ OfSymbol symbol.OpenParenthesis ∷ Text t.0.0 ∷ r in
     setting_sound ws s.0.0 s.0.1 s.1
-    ∙ ap (λ r. Opening (setting_keyword s.0.0.1) s.0.0.0 ∷ r) (after_terminal-sound (OfSymbol symbol.OpenParenthesis) s.0.1 a.0 a.1)
-    ∙ ap (λ r. Opening (setting_keyword s.0.0.1) s.0.0.0 ∷ OfSymbol symbol.OpenParenthesis ∷ r) (text_sound a.0 t.0.0 t.0.1 t.1)
+    ∙ ap (λ r. LeadingKeyword (setting_keyword s.0.0.1) s.0.0.0 ∷ r) (after_terminal-sound (OfSymbol symbol.OpenParenthesis) s.0.1 a.0 a.1)
+    ∙ ap (λ r. LeadingKeyword (setting_keyword s.0.0.1) s.0.0.0 ∷ OfSymbol symbol.OpenParenthesis ∷ r) (text_sound a.0 t.0.0 t.0.1 t.1)
     ∙ ap front (each_sound next_text next_text_before next_text_sound t.0.1 more.0.0 more.0.1 more.1)
     ∙ closed-sound call_before (λ r. front (each_before next_text_before more.0.0 r)) (OfSymbol symbol.CloseParenthesis ∷ [])
     (record { at = s.0.0.0; setting = s.0.0.1; first = t.0.0; more = more.0.0 }) call more.0.1 rest (λ r. refl) more.2

@@ -2,7 +2,7 @@
 use Rattle.std.proofs.Common.{◌≡◌, refl, ◌∙◌, ap, Bool, true, false, List, [], ◌∷◌, ◌++◌, Option, Some, None, ℕ, zero, suc}
 use Rattle.lexer.specs.declared.keyword.Keyword.TheVariants as keyword
 use Rattle.lexer.specs.declared.symbol.Symbol.TheVariants as symbol
-use Rattle.syntax.specs.Terminals.{Terminal, Identifier, Name, Number, Label, Opening, OfKeyword, OfSymbol}
+use Rattle.syntax.specs.Terminals.{Terminal, Identifier, Name, Number, Label, LeadingKeyword, OfKeyword, OfSymbol}
 use Rattle.syntax.specs.SourceTrees.{ExpressionTree, InitialTree, NewSet, Load, Vertices, OutDegrees, Filter, ApplyModified, Value, StatementKindTree, Declare, While, For, If, IfElse, Print, Assign}
 use Rattle.syntax.specs.SourceTrees.{Reduce, SetEntry, ReduceEntry, AddVertex, Apply, BlockTree, DeclarationTree, Constant, Function, ChainTree, SourceTree}
 use Rattle.syntax.specs.ExpressionReading.{Reader}
@@ -202,49 +202,49 @@ module _ (sound : IsSound expression (λ e rest. expression_terminals e ++ rest)
   module _ (inside : Reader BlockTree) (inside_sound : IsSound inside block_before) where
     else_sound : (at : ℕ) (test : ExpressionTree) (body : BlockTree) (ws : List Terminal) (found : Option (List Terminal)) → after_terminal (OfKeyword keyword.Else) ws ≡ found
         → (a : StatementKindTree) (rest : List Terminal) → else_by inside at test (body, ws) found ≡ Some (a, rest)
-        → Opening keyword.If at ∷ (expression_terminals test ++ block_before body ws) ≡ action_before a rest
+        → LeadingKeyword keyword.If at ∷ (expression_terminals test ++ block_before body ws) ≡ action_before a rest
     else_sound at test body ws None there a rest is =
-        closed-sound action_before (λ r. Opening keyword.If at ∷ (expression_terminals test ++ block_before body r)) (OfKeyword keyword.End ∷ []) (If at test body) a ws rest (λ r. refl) is
+        closed-sound action_before (λ r. LeadingKeyword keyword.If at ∷ (expression_terminals test ++ block_before body r)) (OfKeyword keyword.End ∷ []) (If at test body) a ws rest (λ r. refl) is
     else_sound at test body ws (Some after) there a rest is =
         let b = bind_some (inside after) _ _ is in
-        let front : List Terminal → List Terminal = λ r. Opening keyword.If at ∷ (expression_terminals test ++ block_before body r) in
+        let front : List Terminal → List Terminal = λ r. LeadingKeyword keyword.If at ∷ (expression_terminals test ++ block_before body r) in
         ap front (after_terminal-sound (OfKeyword keyword.Else) ws after there ∙ ap (λ r. OfKeyword keyword.Else ∷ r) (inside_sound after b.0.0 b.0.1 b.1))
         ∙ closed-sound action_before (λ r. front (OfKeyword keyword.Else ∷ block_before b.0.0 r)) (OfKeyword keyword.End ∷ []) (IfElse at test body b.0.0) a b.0.1 rest (λ r. refl) b.2
 
     action_sound : IsSound (action_by inside) action_before
-    action_sound (Opening keyword.Var at ∷ ws) a rest is =
+    action_sound (LeadingKeyword keyword.Var at ∷ ws) a rest is =
         let p = bind_some (typed_at ws) _ _ is in
         let i = bind_some (assigned_at p.0.1) _ _ p.2 in
-        ap (λ r. Opening keyword.Var at ∷ r) (typed_sound ws p.0.0 p.0.1 p.1 ∙ ap (typed_before p.0.0) (assigned_sound p.0.1 i.0.0 i.0.1 i.1))
+        ap (λ r. LeadingKeyword keyword.Var at ∷ r) (typed_sound ws p.0.0 p.0.1 p.1 ∙ ap (typed_before p.0.0) (assigned_sound p.0.1 i.0.0 i.0.1 i.1))
         ∙ same_before action_before (Declare at p.0.0 i.0.0) a i.0.1 rest i.2
-    action_sound (Opening keyword.While at ∷ ws) a rest is =
+    action_sound (LeadingKeyword keyword.While at ∷ ws) a rest is =
         let e = bind_some (expression ws) _ _ is in
         let b = bind_some (inside e.0.1) _ _ e.2 in
-        ap (λ r. Opening keyword.While at ∷ r) (sound ws e.0.0 e.0.1 e.1 ∙ ap (λ r. expression_terminals e.0.0 ++ r) (inside_sound e.0.1 b.0.0 b.0.1 b.1))
-        ∙ closed-sound action_before (λ r. Opening keyword.While at ∷ (expression_terminals e.0.0 ++ block_before b.0.0 r)) (OfKeyword keyword.End ∷ [])
+        ap (λ r. LeadingKeyword keyword.While at ∷ r) (sound ws e.0.0 e.0.1 e.1 ∙ ap (λ r. expression_terminals e.0.0 ++ r) (inside_sound e.0.1 b.0.0 b.0.1 b.1))
+        ∙ closed-sound action_before (λ r. LeadingKeyword keyword.While at ∷ (expression_terminals e.0.0 ++ block_before b.0.0 r)) (OfKeyword keyword.End ∷ [])
         (While at e.0.0 b.0.0) a b.0.1 rest (λ r. refl) b.2
-    action_sound (Opening keyword.For at ∷ ws) a rest is =
+    action_sound (LeadingKeyword keyword.For at ∷ ws) a rest is =
         let n = bind_some (name_reader ws) _ _ is in
         let i = bind_some (after_terminal (OfKeyword keyword.In) n.0.1) _ _ n.2 in
         let e = bind_some (expression i.0) _ _ i.2 in
         let c = bind_some (after_terminal (OfSymbol symbol.Colon) e.0.1) _ _ e.2 in
         let f = bind_some (expression c.0) _ _ c.2 in
         let b = bind_some (inside f.0.1) _ _ f.2 in
-        let front : List Terminal → List Terminal = λ r. Opening keyword.For at ∷ Name n.0.0 ∷ OfKeyword keyword.In ∷ r in
+        let front : List Terminal → List Terminal = λ r. LeadingKeyword keyword.For at ∷ Name n.0.0 ∷ OfKeyword keyword.In ∷ r in
         let last : List Terminal → List Terminal = λ r. front (expression_terminals e.0.0 ++ OfSymbol symbol.Colon ∷ r) in
-        ap (λ r. Opening keyword.For at ∷ r) (name_sound ws n.0.0 n.0.1 n.1 ∙ ap (λ r. Name n.0.0 ∷ r) (after_terminal-sound (OfKeyword keyword.In) n.0.1 i.0 i.1))
+        ap (λ r. LeadingKeyword keyword.For at ∷ r) (name_sound ws n.0.0 n.0.1 n.1 ∙ ap (λ r. Name n.0.0 ∷ r) (after_terminal-sound (OfKeyword keyword.In) n.0.1 i.0 i.1))
         ∙ ap front (sound i.0 e.0.0 e.0.1 e.1 ∙ ap (λ r. expression_terminals e.0.0 ++ r) (after_terminal-sound (OfSymbol symbol.Colon) e.0.1 c.0 c.1))
         ∙ ap last (sound c.0 f.0.0 f.0.1 f.1 ∙ ap (λ r. expression_terminals f.0.0 ++ r) (inside_sound f.0.1 b.0.0 b.0.1 b.1))
         ∙ closed-sound action_before (λ r. last (expression_terminals f.0.0 ++ block_before b.0.0 r)) (OfKeyword keyword.End ∷ [])
         (For at n.0.0 e.0.0 f.0.0 b.0.0) a b.0.1 rest (λ r. refl) b.2
-    action_sound (Opening keyword.If at ∷ ws) a rest is =
+    action_sound (LeadingKeyword keyword.If at ∷ ws) a rest is =
         let e = bind_some (expression ws) _ _ is in
         let b = bind_some (inside e.0.1) _ _ e.2 in
-        ap (λ r. Opening keyword.If at ∷ r) (sound ws e.0.0 e.0.1 e.1 ∙ ap (λ r. expression_terminals e.0.0 ++ r) (inside_sound e.0.1 b.0.0 b.0.1 b.1))
+        ap (λ r. LeadingKeyword keyword.If at ∷ r) (sound ws e.0.0 e.0.1 e.1 ∙ ap (λ r. expression_terminals e.0.0 ++ r) (inside_sound e.0.1 b.0.0 b.0.1 b.1))
         ∙ else_sound at e.0.0 b.0.0 b.0.1 (after_terminal (OfKeyword keyword.Else) b.0.1) refl a rest b.2
-    action_sound (Opening keyword.Print at ∷ ws) a rest is =
+    action_sound (LeadingKeyword keyword.Print at ∷ ws) a rest is =
         let e = bind_some (ended_at ws) _ _ is in
-        ap (λ r. Opening keyword.Print at ∷ r) (ended_sound ws e.0.0 e.0.1 e.1) ∙ same_before action_before (Print at e.0.0) a e.0.1 rest e.2
+        ap (λ r. LeadingKeyword keyword.Print at ∷ r) (ended_sound ws e.0.0 e.0.1 e.1) ∙ same_before action_before (Print at e.0.0) a e.0.1 rest e.2
     action_sound (Name name ∷ ws) a rest is = named_action_sound name ws a rest is
     action_sound _ a rest is = cc is
 
@@ -275,19 +275,19 @@ module _ (sound : IsSound expression (λ e rest. expression_terminals e ++ rest)
 
   declaration_sound : IsSound declaration_by declaration_before
   unfolding block
-  declaration_sound (Opening keyword.Const at ∷ ws) d rest is =
+  declaration_sound (LeadingKeyword keyword.Const at ∷ ws) d rest is =
       let p = bind_some (typed_at ws) _ _ is in
       let i = bind_some (assigned_at p.0.1) _ _ p.2 in
-      ap (λ r. Opening keyword.Const at ∷ r) (typed_sound ws p.0.0 p.0.1 p.1 ∙ ap (typed_before p.0.0) (assigned_sound p.0.1 i.0.0 i.0.1 i.1))
+      ap (λ r. LeadingKeyword keyword.Const at ∷ r) (typed_sound ws p.0.0 p.0.1 p.1 ∙ ap (typed_before p.0.0) (assigned_sound p.0.1 i.0.0 i.0.1 i.1))
       ∙ same_before declaration_before (Constant at p.0.0 i.0.0) d i.0.1 rest i.2
-  declaration_sound (Opening keyword.Func at ∷ ws) d rest is =
+  declaration_sound (LeadingKeyword keyword.Func at ∷ ws) d rest is =
       let n = bind_some (name_reader ws) _ _ is in
       let p = bind_some (parameters_at n.0.1) _ _ n.2 in
       let t = bind_some (result_by p.0.1 (after_terminal (OfSymbol symbol.Arrow) p.0.1)) _ _ p.2 in
       let b = bind_some (block t.0.1) _ _ t.2 in
-      let front : List Terminal → List Terminal = λ r. Opening keyword.Func at ∷ Name n.0.0 ∷ r in
+      let front : List Terminal → List Terminal = λ r. LeadingKeyword keyword.Func at ∷ Name n.0.0 ∷ r in
       let behind : List Terminal → List Terminal = λ r. front (OfSymbol symbol.OpenParenthesis ∷ parameters_before p.0.0 (OfSymbol symbol.CloseParenthesis ∷ r)) in
-      ap (λ r. Opening keyword.Func at ∷ r) (name_sound ws n.0.0 n.0.1 n.1)
+      ap (λ r. LeadingKeyword keyword.Func at ∷ r) (name_sound ws n.0.0 n.0.1 n.1)
       ∙ ap front (parameters_sound n.0.1 p.0.0 p.0.1 p.1)
       ∙ ap behind (result_sound p.0.1 (after_terminal (OfSymbol symbol.Arrow) p.0.1) refl t.0.0 t.0.1 t.1)
       ∙ ap (λ r. behind (result_before t.0.0 r)) (block_at-sound limit t.0.1 b.0.0 b.0.1 b.1)

@@ -6,7 +6,7 @@ use Rattle.syntax.specs.ExpressionSpelling.{expression_terminals}
 use Rattle.syntax.specs.ExpressionDepth.{expression_depth}
 use Rattle.syntax.specs.ExpressionEnds.{EndsExpression}
 
--- the terminals are those of the tree and then the rest, the tree is at most so deep, and the rest does not go on with it
+-- the terminals are those of the tree and then the rest, the tree is at most so deep, and the rest does not continue with it
 pub record IsReading {A : Type 0} (spelled : A → List Terminal) (deep : A → ℕ) (Ends : A → List Terminal → Type 0) (depth : ℕ) (ws : List Terminal) (tree : A)
     (rest : List Terminal) : Type 0 where
   pub whole : ws ≡ spelled tree ++ rest

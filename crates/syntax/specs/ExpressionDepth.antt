@@ -1,4 +1,4 @@
--- How deep parentheses and brackets stand in each other.
+-- How deep parentheses and brackets are nested.
 use Rattle.std.specs.Prelude.{ℕ, suc, max}
 use Rattle.syntax.specs.SourceTrees.{ExpressionTree, ConjunctionTree, ComparisonTree, SumTree, TermTree, UnaryTree, PrimaryTree, LastConjunction}
 use Rattle.syntax.specs.SourceTrees.{ConjunctionThen, LastComparison, ComparisonThen, OneSum, TwoSums, LastTerm, TermThen, LastUnary, UnaryThen, Bare, Signed}

@@ -6,7 +6,7 @@ use Rattle.syntax.specs.SourceTrees.{ConjunctionThen, LastComparison, Comparison
 use Rattle.syntax.specs.SourceTrees.{Variable}
 use Rattle.syntax.specs.ExpressionReading.{multiplication, addition, relation, after_and, after_or, after_open_bracket, after_dot}
 
--- The terminals after a tree do not go on with it: none of the operators of a level that could stand after it is the first of
+-- The terminals after a tree do not continue with it: none of the operators of a level that could be after it is the first of
 -- them, nor a bracket or a dot after a name. A comparison that has its relation takes no other.
 abbrev pub EndsPrimary : PrimaryTree → List Terminal → Type 0
 EndsPrimary (Variable name) rest = (after_open_bracket rest ≡ None) × (after_dot rest ≡ None)
@@ -36,7 +36,7 @@ abbrev pub EndsExpression : ExpressionTree → List Terminal → Type 0
 EndsExpression (LastConjunction c) rest = EndsConjunction c rest × (after_or rest ≡ None)
 EndsExpression (ConjunctionThen c others) rest = EndsExpression others rest
 
--- no operator, bracket or dot is the first of the terminals, so that no expression goes on with them
+-- no operator, bracket or dot is the first of the terminals, so that no expression continues with them
 pub record IsExpressionEnd (rest : List Terminal) : Type 0 where
   pub bracket : after_open_bracket rest ≡ None
   pub dot : after_dot rest ≡ None

@@ -1,5 +1,5 @@
 -- Reading terminals from the left: a reader answers with a tree and the terminals after it. Depth is how many parentheses and brackets
--- may stand in each other. The laws of `laws` say what reading gives in terms of the grammar.
+-- may be nested. The laws of `laws` say what reading gives in terms of the grammar.
 use Rattle.std.specs.Prelude.{[], ℕ, zero, suc, Bool, true, false, List, ◌∷◌, length, Option, Some, None}
 use Rattle.lexer.specs.declared.keyword.Keyword.{Keyword}
 use Rattle.lexer.specs.declared.keyword.Keyword.TheVariants as keyword

@@ -1,4 +1,4 @@
--- How deep terminals stand in what is opened and not closed yet.
+-- How deep terminals are in what is opened and not closed yet.
 use Rattle.std.specs.Prelude.{[], ◌≡◌, ℕ, zero, suc, ◌<◌, ◌≤◌, List, ◌∷◌, ◌⊎◌, Option, Some, None}
 use Rattle.lexer.specs.declared.keyword.Keyword.{Keyword}
 use Rattle.lexer.specs.declared.symbol.Symbol.{Symbol}
@@ -6,7 +6,7 @@ use Rattle.lexer.specs.declared.token.Token.{Token}
 use Rattle.lexer.specs.Tokens.{slice_of}
 use Rattle.lexer.specs.declared.keyword.Keyword.TheVariants as keyword
 use Rattle.lexer.specs.declared.symbol.Symbol.TheVariants as symbol
-use Rattle.syntax.specs.Terminals.{Terminal, Opening, OfKeyword, OfSymbol, terminal_of}
+use Rattle.syntax.specs.Terminals.{Terminal, LeadingKeyword, OfKeyword, OfSymbol, terminal_of}
 use Rattle.syntax.specs.declared.nesting.Change.{Change}
 use Rattle.syntax.specs.declared.nesting.Change.TheVariants.{Opens, Closes, Keeps}
 
@@ -31,7 +31,7 @@ symbol_change symbol.CloseBracket = Closes
 symbol_change _ = Keeps
 
 abbrev pub terminal_change : Terminal → Change
-terminal_change (Opening terminal at) = keyword_change terminal
+terminal_change (LeadingKeyword terminal at) = keyword_change terminal
 terminal_change (OfKeyword terminal) = keyword_change terminal
 terminal_change (OfSymbol symbol) = symbol_change symbol
 terminal_change _ = Keeps
@@ -54,7 +54,7 @@ abbrev pub StaysWithin : ℕ → ℕ → List Terminal → Type 0
 StaysWithin most n [] = Unit {0}
 StaysWithin most n (terminal ∷ terminals) = (nesting_after terminal n ≤ most) × StaysWithin most (nesting_after terminal n) terminals
 
--- The first of these tokens of a text after which more is open than the limit stands at this offset; n are open before them.
+-- The first of these tokens of a text after which more is open than the limit is at this offset; n are open before them.
 abbrev pub PassesAt : List ℕ → ℕ → List Token → ℕ → Type 0
 PassesAt text n [] at = ⊥
 PassesAt text n (token ∷ tokens) at =

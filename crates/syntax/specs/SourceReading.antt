@@ -5,7 +5,7 @@ use Rattle.lexer.specs.declared.keyword.Keyword.{Keyword}
 use Rattle.lexer.specs.declared.keyword.Keyword.TheVariants as keyword
 use Rattle.lexer.specs.declared.symbol.Symbol.TheVariants as symbol
 use Rattle.lexer.specs.Spelling.{keyword_spelling, symbol_spelling}
-use Rattle.syntax.specs.Terminals.{Terminal, Identifier, Name, Number, Label, Text, Opening, OfKeyword, OfSymbol}
+use Rattle.syntax.specs.Terminals.{Terminal, Identifier, Name, Number, Label, Text, LeadingKeyword, OfKeyword, OfSymbol}
 use Rattle.syntax.specs.SourceTrees.{ExpressionTree, EndsTree, InitialTree, NewSet, Load, Vertices, OutDegrees, Filter, ApplyModified, Value, StatementKindTree}
 use Rattle.syntax.specs.SourceTrees.{Declare, While, For, If, IfElse, Print, Assign, Reduce, SetEntry, ReduceEntry, AddVertex, Apply, BlockTree, Empty, Then}
 use Rattle.syntax.specs.SourceTrees.{ParameterTree, DeclarationTree, Constant, Function, CallTree, ChainTree, SourceTree}
@@ -58,7 +58,7 @@ abbrev pub text_at : Reader (List ℕ)
 text_at (Text text ∷ rest) = Some (text, rest)
 text_at _ = None
 
--- (unfolded only where asked for, since 64 readers stand in each other)
+-- (unfolded only where asked for, since 64 readers are nested)
 unfoldable pub expression : Reader ExpressionTree
 expression = expression_at limit
 
@@ -163,7 +163,7 @@ reduction_at (OfSymbol symbol.MaxAssign ∷ rest) = Some (reduction.Max, rest)
 reduction_at (OfSymbol symbol.PlusAssign ∷ rest) = Some (reduction.Plus, rest)
 reduction_at _ = None
 
--- what stands after `name [ index ]`
+-- what is after `name [ index ]`
 abbrev pub entry_by : Identifier → ExpressionTree → List Terminal → Option (List Terminal) → Option (StatementKindTree × List Terminal)
 entry_by vector index ws (Some after) = ended_at after >>= λ e. Some (SetEntry vector index e.0, e.1)
 entry_by vector index ws None = reduction_at ws >>= λ r. ended_at r.1 >>= λ e. Some (ReduceEntry vector index r.0 e.0, e.1)
@@ -201,27 +201,27 @@ named_action name (OfSymbol symbol.Dot ∷ rest) =
     method_by name (OfSymbol symbol.Dot ∷ rest) (after_terminals (OfSymbol symbol.Dot ∷ OfKeyword keyword.AddVertex ∷ []) (OfSymbol symbol.Dot ∷ rest))
 named_action name ws = read_reduction_at name ws
 
--- what stands after the test and the body of an `if`
+-- what is after the test and the body of an `if`
 abbrev pub else_by : Reader BlockTree → ℕ → ExpressionTree → BlockTree × List Terminal → Option (List Terminal) → Option (StatementKindTree × List Terminal)
 else_by block at test body None = closed_by (OfKeyword keyword.End ∷ []) (If at test body.0, body.1)
 else_by block at test body (Some after) = block after >>= λ b. closed_by (OfKeyword keyword.End ∷ []) (IfElse at test body.0 b.0, b.1)
 
 abbrev pub action_by : Reader BlockTree → Reader StatementKindTree
-action_by block (Opening keyword.Var at ∷ rest) =
+action_by block (LeadingKeyword keyword.Var at ∷ rest) =
     typed_at rest >>= λ n. assigned_at n.1 >>= λ i. Some (Declare at n.0 i.0, i.1)
-action_by block (Opening keyword.While at ∷ rest) =
+action_by block (LeadingKeyword keyword.While at ∷ rest) =
     expression rest >>= λ e. block e.1 >>= λ b. closed_by (OfKeyword keyword.End ∷ []) (While at e.0 b.0, b.1)
-action_by block (Opening keyword.For at ∷ rest) =
+action_by block (LeadingKeyword keyword.For at ∷ rest) =
     name_reader rest >>= λ n. after_terminal (OfKeyword keyword.In) n.1 >>= λ a. expression a >>= λ e.
     after_terminal (OfSymbol symbol.Colon) e.1 >>= λ c. expression c >>= λ f. block f.1 >>= λ b.
     closed_by (OfKeyword keyword.End ∷ []) (For at n.0 e.0 f.0 b.0, b.1)
-action_by block (Opening keyword.If at ∷ rest) =
+action_by block (LeadingKeyword keyword.If at ∷ rest) =
     expression rest >>= λ e. block e.1 >>= λ b. else_by block at e.0 b (after_terminal (OfKeyword keyword.Else) b.1)
-action_by block (Opening keyword.Print at ∷ rest) = ended_at rest >>= λ e. Some (Print at e.0, e.1)
+action_by block (LeadingKeyword keyword.Print at ∷ rest) = ended_at rest >>= λ e. Some (Print at e.0, e.1)
 action_by block (Name name ∷ rest) = named_action name rest
 action_by block _ = None
 
--- a label, where one stands at the front
+-- a label, where one is at the front
 abbrev pub label_at : List Terminal → Option Identifier × List Terminal
 label_at (Label label ∷ rest) = (Some label, rest)
 label_at ws = (None, ws)
@@ -229,11 +229,11 @@ label_at ws = (None, ws)
 -- whether a statement begins here
 abbrev pub begins_statement : List Terminal → Bool
 begins_statement (Label label ∷ rest) = true
-begins_statement (Opening keyword.Var at ∷ rest) = true
-begins_statement (Opening keyword.While at ∷ rest) = true
-begins_statement (Opening keyword.For at ∷ rest) = true
-begins_statement (Opening keyword.If at ∷ rest) = true
-begins_statement (Opening keyword.Print at ∷ rest) = true
+begins_statement (LeadingKeyword keyword.Var at ∷ rest) = true
+begins_statement (LeadingKeyword keyword.While at ∷ rest) = true
+begins_statement (LeadingKeyword keyword.For at ∷ rest) = true
+begins_statement (LeadingKeyword keyword.If at ∷ rest) = true
+begins_statement (LeadingKeyword keyword.Print at ∷ rest) = true
 begins_statement (Name name ∷ rest) = true
 begins_statement _ = false
 
@@ -261,11 +261,11 @@ block_from (s ∷ others) = Then s.0 s.1 (block_from others)
 abbrev pub block_by : Reader StatementKindTree → Reader BlockTree
 block_by action ws = each_at (next_statement action) ws >>= λ b. Some (block_from b.0, b.1)
 
--- a block in which no block may stand
+-- a block in which no block may be
 abbrev pub no_block : Reader BlockTree
 no_block ws = None
 
--- a block in which so many blocks may stand in each other
+-- a block in which so many blocks may be nested
 abbrev pub block_at : ℕ → Reader BlockTree
 block_at zero = block_by (action_by no_block)
 block_at (suc depth) = block_by (action_by (block_at depth))
@@ -292,16 +292,16 @@ result_by ws None = Some (None, ws)
 result_by ws (Some after) = typed_at after >>= λ p. Some (Some p.0, p.1)
 
 abbrev pub declaration_by : List Terminal → Option (DeclarationTree × List Terminal)
-declaration_by (Opening keyword.Const at ∷ rest) =
+declaration_by (LeadingKeyword keyword.Const at ∷ rest) =
     typed_at rest >>= λ n. assigned_at n.1 >>= λ i. Some (Constant at n.0 i.0, i.1)
-declaration_by (Opening keyword.Func at ∷ rest) =
+declaration_by (LeadingKeyword keyword.Func at ∷ rest) =
     name_reader rest >>= λ n. parameters_at n.1 >>= λ p. result_by p.1 (after_terminal (OfSymbol symbol.Arrow) p.1) >>= λ r.
     block r.1 >>= λ b. closed_by (OfKeyword keyword.End ∷ []) (Function at n.0 p.0 r.0 b.0, b.1)
 declaration_by _ = None
 
 abbrev pub begins_declaration : List Terminal → Bool
-begins_declaration (Opening keyword.Const at ∷ rest) = true
-begins_declaration (Opening keyword.Func at ∷ rest) = true
+begins_declaration (LeadingKeyword keyword.Const at ∷ rest) = true
+begins_declaration (LeadingKeyword keyword.Func at ∷ rest) = true
 begins_declaration _ = false
 
 -- a declaration, where one begins
@@ -309,11 +309,11 @@ abbrev pub next_declaration : List Terminal → Option (Option (DeclarationTree 
 next_declaration ws = where_begins (begins_declaration ws) (declaration_by ws)
 
 abbrev pub setting_at : Reader (ℕ × Setting)
-setting_at (Opening keyword.ConfigApplyDirection at ∷ rest) = Some ((at, setting.Direction), rest)
-setting_at (Opening keyword.ConfigApplyParallelization at ∷ rest) = Some ((at, setting.Parallelization), rest)
-setting_at (Opening keyword.ConfigApplyDenseVertexSet at ∷ rest) = Some ((at, setting.DenseVertexSet), rest)
-setting_at (Opening keyword.FuseApplyFunctions at ∷ rest) = Some ((at, setting.FuseFunctions), rest)
-setting_at (Opening keyword.FuseFields at ∷ rest) = Some ((at, setting.FuseFields), rest)
+setting_at (LeadingKeyword keyword.ConfigApplyDirection at ∷ rest) = Some ((at, setting.Direction), rest)
+setting_at (LeadingKeyword keyword.ConfigApplyParallelization at ∷ rest) = Some ((at, setting.Parallelization), rest)
+setting_at (LeadingKeyword keyword.ConfigApplyDenseVertexSet at ∷ rest) = Some ((at, setting.DenseVertexSet), rest)
+setting_at (LeadingKeyword keyword.FuseApplyFunctions at ∷ rest) = Some ((at, setting.FuseFunctions), rest)
+setting_at (LeadingKeyword keyword.FuseFields at ∷ rest) = Some ((at, setting.FuseFields), rest)
 setting_at _ = None
 
 -- the text after a comma

@@ -3,7 +3,7 @@ use Rattle.std.specs.Prelude.{ℕ, List, [], ◌∷◌, ◌++◌, Option, Some, 
 use Rattle.lexer.specs.declared.keyword.Keyword.{Keyword}
 use Rattle.lexer.specs.declared.keyword.Keyword.TheVariants as keyword
 use Rattle.lexer.specs.declared.symbol.Symbol.TheVariants as symbol
-use Rattle.syntax.specs.Terminals.{Terminal, Identifier, Name, Number, Label, Text, Opening, OfKeyword, OfSymbol}
+use Rattle.syntax.specs.Terminals.{Terminal, Identifier, Name, Number, Label, Text, LeadingKeyword, OfKeyword, OfSymbol}
 use Rattle.syntax.specs.SourceTrees.{ExpressionTree, EndsTree, InitialTree, NewSet, Load, Vertices, OutDegrees, Filter, ApplyModified, Value, StatementKindTree}
 use Rattle.syntax.specs.SourceTrees.{Declare, While, For, If, IfElse, Print, Assign, Reduce, SetEntry, ReduceEntry, AddVertex, Apply, BlockTree, Empty, Then}
 use Rattle.syntax.specs.SourceTrees.{ParameterTree, DeclarationTree, Constant, Function, CallTree, ChainTree, SourceTree}
@@ -95,16 +95,16 @@ label_terminals (Some label) = Label label ∷ []
 abbrev mutual
   -- body
   pub action_before : StatementKindTree → List Terminal → List Terminal
-  action_before (Declare at p initial) rest = Opening keyword.Var at ∷ typed_before p (assigned_before initial rest)
-  action_before (While at test body) rest = Opening keyword.While at ∷ (expression_terminals test ++ block_before body (OfKeyword keyword.End ∷ rest))
+  action_before (Declare at p initial) rest = LeadingKeyword keyword.Var at ∷ typed_before p (assigned_before initial rest)
+  action_before (While at test body) rest = LeadingKeyword keyword.While at ∷ (expression_terminals test ++ block_before body (OfKeyword keyword.End ∷ rest))
   action_before (For at name first limit body) rest =
-      Opening keyword.For at ∷ Name name ∷ OfKeyword keyword.In ∷ (expression_terminals first
+      LeadingKeyword keyword.For at ∷ Name name ∷ OfKeyword keyword.In ∷ (expression_terminals first
       ++ OfSymbol symbol.Colon ∷ (expression_terminals limit ++ block_before body (OfKeyword keyword.End ∷ rest)))
-  action_before (If at test body) rest = Opening keyword.If at ∷ (expression_terminals test ++ block_before body (OfKeyword keyword.End ∷ rest))
+  action_before (If at test body) rest = LeadingKeyword keyword.If at ∷ (expression_terminals test ++ block_before body (OfKeyword keyword.End ∷ rest))
   action_before (IfElse at test body otherwise) rest =
-      Opening keyword.If at ∷ (expression_terminals test
+      LeadingKeyword keyword.If at ∷ (expression_terminals test
       ++ block_before body (OfKeyword keyword.Else ∷ block_before otherwise (OfKeyword keyword.End ∷ rest)))
-  action_before (Print at value) rest = Opening keyword.Print at ∷ ended_before value rest
+  action_before (Print at value) rest = LeadingKeyword keyword.Print at ∷ ended_before value rest
   action_before (Assign name value) rest = Name name ∷ assigned_before value rest
   action_before (Reduce name reduction value) rest = Name name ∷ reduction_terminal reduction ∷ ended_before value rest
   action_before (SetEntry vector index value) rest =
@@ -140,9 +140,9 @@ result_before (Some p) rest = OfSymbol symbol.Arrow ∷ typed_before p rest
 
 -- decl
 abbrev pub declaration_before : DeclarationTree → List Terminal → List Terminal
-declaration_before (Constant at p initial) rest = Opening keyword.Const at ∷ typed_before p (assigned_before initial rest)
+declaration_before (Constant at p initial) rest = LeadingKeyword keyword.Const at ∷ typed_before p (assigned_before initial rest)
 declaration_before (Function at name parameters result body) rest =
-    Opening keyword.Func at ∷ Name name ∷ OfSymbol symbol.OpenParenthesis ∷ parameters_before parameters
+    LeadingKeyword keyword.Func at ∷ Name name ∷ OfSymbol symbol.OpenParenthesis ∷ parameters_before parameters
     (OfSymbol symbol.CloseParenthesis ∷ result_before result (block_before body (OfKeyword keyword.End ∷ rest)))
 
 -- terminal
@@ -160,7 +160,7 @@ next_text_before text rest = OfSymbol symbol.Comma ∷ Text text ∷ rest
 -- call = terminal "(" TEXT {"," TEXT} ")"
 abbrev pub call_before : CallTree → List Terminal → List Terminal
 call_before call rest =
-    Opening (setting_keyword call.setting) call.at ∷ OfSymbol symbol.OpenParenthesis ∷ Text call.first
+    LeadingKeyword (setting_keyword call.setting) call.at ∷ OfSymbol symbol.OpenParenthesis ∷ Text call.first
     ∷ each_before next_text_before call.more (OfSymbol symbol.CloseParenthesis ∷ rest)
 
 -- "->" call

@@ -8,7 +8,7 @@ use Rattle.lexer.specs.declared.token.TokenKind.{TokenKind}
 use Rattle.lexer.specs.declared.token.TokenKind.TheVariants as kind
 use Rattle.lexer.specs.Tokens.{slice_of}
 
--- the bytes of a name, and the offset at which it stands in its text
+-- the bytes of a name, and the offset at which it is in its text
 pub record Identifier : Type 0 where
   pub bytes : List ℕ
   pub at : ℕ
@@ -20,24 +20,24 @@ pub data Terminal : Type 0 where
   Number : ℤ → Terminal
   Label : Identifier → Terminal
   Text : List ℕ → Terminal
-  Opening : Keyword → ℕ → Terminal
+  LeadingKeyword : Keyword → ℕ → Terminal
   OfKeyword : Keyword → Terminal
   OfSymbol : Symbol → Terminal
 
 -- the terminal that a keyword at this offset is
 abbrev pub keyword_terminal : Keyword → ℕ → Terminal
-keyword_terminal keyword.Const at = Opening keyword.Const at
-keyword_terminal keyword.Func at = Opening keyword.Func at
-keyword_terminal keyword.Var at = Opening keyword.Var at
-keyword_terminal keyword.While at = Opening keyword.While at
-keyword_terminal keyword.For at = Opening keyword.For at
-keyword_terminal keyword.If at = Opening keyword.If at
-keyword_terminal keyword.Print at = Opening keyword.Print at
-keyword_terminal keyword.ConfigApplyDirection at = Opening keyword.ConfigApplyDirection at
-keyword_terminal keyword.ConfigApplyParallelization at = Opening keyword.ConfigApplyParallelization at
-keyword_terminal keyword.ConfigApplyDenseVertexSet at = Opening keyword.ConfigApplyDenseVertexSet at
-keyword_terminal keyword.FuseApplyFunctions at = Opening keyword.FuseApplyFunctions at
-keyword_terminal keyword.FuseFields at = Opening keyword.FuseFields at
+keyword_terminal keyword.Const at = LeadingKeyword keyword.Const at
+keyword_terminal keyword.Func at = LeadingKeyword keyword.Func at
+keyword_terminal keyword.Var at = LeadingKeyword keyword.Var at
+keyword_terminal keyword.While at = LeadingKeyword keyword.While at
+keyword_terminal keyword.For at = LeadingKeyword keyword.For at
+keyword_terminal keyword.If at = LeadingKeyword keyword.If at
+keyword_terminal keyword.Print at = LeadingKeyword keyword.Print at
+keyword_terminal keyword.ConfigApplyDirection at = LeadingKeyword keyword.ConfigApplyDirection at
+keyword_terminal keyword.ConfigApplyParallelization at = LeadingKeyword keyword.ConfigApplyParallelization at
+keyword_terminal keyword.ConfigApplyDenseVertexSet at = LeadingKeyword keyword.ConfigApplyDenseVertexSet at
+keyword_terminal keyword.FuseApplyFunctions at = LeadingKeyword keyword.FuseApplyFunctions at
+keyword_terminal keyword.FuseFields at = LeadingKeyword keyword.FuseFields at
 keyword_terminal terminal at = OfKeyword terminal
 
 -- the terminal that a token of this kind is, with its bytes and its offset

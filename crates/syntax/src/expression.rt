@@ -68,7 +68,7 @@ impl Drop for Comparison {
     }
 }
 
-/// One term, or several with `+` and `-` between them: each but the first stands after its operator.
+/// One term, or several with `+` and `-` between them: each but the first is after its operator.
 #[cycle(expression)]
 pub struct Sum {
     pub first: Term,
@@ -82,7 +82,7 @@ impl Drop for Sum {
     }
 }
 
-/// One operand, or several with `*`, `/` and `%` between them: each but the first stands after its
+/// One operand, or several with `*`, `/` and `%` between them: each but the first is after its
 /// operator.
 #[cycle(expression)]
 pub struct Term {

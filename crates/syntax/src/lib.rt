@@ -7,7 +7,7 @@
 //! type for each level of the grammar, and a [`Source`] as a `SourceTree`; both have no pointers.
 //! `specs/ExpressionSpelling.antt` and `specs/SourceSpelling.antt` give the terminals of each tree, with one
 //! equation for each rule of the grammar, and `specs/Nesting.antt` counts what is open. `Begins` says that
-//! terminals are those of an expression, at most so deep, and then a rest that does not go on with it
+//! terminals are those of an expression, at most so deep, and then a rest that does not continue with it
 //! (`specs/ExpressionBeginnings.antt`).
 //!
 //! `terminals_have_one_source` is the law that no two sources have the same terminals, and `sources_are_read_exactly`
@@ -18,7 +18,7 @@
 //! A tree keeps what makes its terminals its own: parentheses, labels, an absent `else` apart from an empty
 //! one, the operators of one level as one list.
 //!
-//! The parser, the writer of sources, the checker of types and the schedule stand on this crate. The language is
+//! The parser, the writer of sources, the checker of types and the schedule depend on this crate. The language is
 //! after GraphIt (Zhang, Yang, Baghdadi, Kamil, Shun, Amarasinghe, OOPSLA 2018), with a grammar of its own.
 #![tactic(auto)]
 

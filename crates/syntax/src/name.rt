@@ -20,7 +20,7 @@ impl Model for Name {
 }
 
 impl Name {
-    /// The name of these bytes, a copy of which it keeps, that stands at this offset.
+    /// The name of these bytes, a copy of which it keeps, that is at this offset.
     pub fn of(alloc: Global, bytes: &[u8], at: usize) -> Result<Name, AllocError>
         ensures { IfOk result (λ name. name ≡ record { bytes = bytes.now; at = at }) }
     {

@@ -1,4 +1,4 @@
-//! How deep the tokens of a text stand in what is opened and not closed yet.
+//! How deep the tokens of a text are in what is opened and not closed yet.
 ghost use Rattle.std.specs.Prelude.{◌≡◌, ◌≤◌, ℕ, List, MatchOption};
 ghost use Rattle.syntax.specs.Nesting.{keyword_change as change_of_keyword, symbol_change as change_of_symbol, nesting_after as behind, terminal_change, limit, StaysWithin, PassesAt};
 ghost use Rattle.syntax.specs.Terminals.{terminal_of, terminals_of};

@@ -1,7 +1,7 @@
 -- Bytes that come after others.
 use Rattle.std.specs.Prelude.{◌≡◌, ℕ, ◌+◌, Result, IfOk, List, [], ◌∷◌, ◌++◌}
 
--- the least number that may stand next after these elements
+-- the least number that may be next after these elements
 abbrev pub least_after : ℕ → List ℕ → ℕ
 least_after low [] = low
 least_after low (x ∷ xs) = least_after (x + 1) xs

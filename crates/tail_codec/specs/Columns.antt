@@ -1,4 +1,4 @@
--- Entries whose keys and weights stand in columns.
+-- Entries whose keys and weights are in columns.
 use Rattle.std.specs.Prelude.{ℕ, ℤ, pos, Option, Some, None, List, map}
 use Rattle.std.specs.List.{zip}
 

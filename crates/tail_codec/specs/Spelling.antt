@@ -28,7 +28,7 @@ abbrev pub is_one : ℤ → Bool
 is_one (pos n) = n == 1
 is_one (negsuc n) = false
 
--- The numbers of an entry whose key is g above the least that might stand there: twice g where its
+-- The numbers of an entry whose key is g above the least that might be there: twice g where its
 -- weight is 1, else one more than that, and then the number of the weight.
 abbrev pub entry_numbers : ℕ → ℤ → List ℕ
 entry_numbers g w = if is_one w then (2 * g) ∷ [] else (2 * g + 1) ∷ weight_number w ∷ []
@@ -53,7 +53,7 @@ pub record SpellsFrom (low : ℕ) (es : List (ℕ × ℤ)) (bytes : List ℕ) : 
 abbrev pub Spells : Option ℕ → List (ℕ × ℤ) → List ℕ → Type 0
 Spells base es bytes = SpellsFrom (least base) es bytes
 
--- entries with ascending keys, and the number that the keys stand above if there is one
+-- entries with ascending keys, and the number that the keys are above if there is one
 pub record BasedList : Type 0 where
   pub base : Option ℕ
   pub entries : List (ℕ × ℤ)

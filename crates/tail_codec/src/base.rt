@@ -3,7 +3,7 @@
 ghost use Rattle.std.specs.Prelude.{◌≡◌, ◌^◌, ◌≤◌};
 ghost use Rattle.ascending_lists.specs.Ascending.{least};
 
-/// The least key that may stand over the base: 2^32 where none may.
+/// The least key that may be over the base: 2^32 where none may.
 #[inline]
 pub(crate) fn least_over(base: Option<u32>) -> u64
     ensures low { result ≡ least base }

@@ -39,7 +39,7 @@ impl Model for EntryList {
 }
 
 impl EntryList {
-    /// These keys, each with the weight at its position. The weights are let go where all of them are 1.
+    /// These keys, each with the weight at its position. The weights are dropped where all of them are 1.
     pub fn new(keys: Vec<u32>, weights: Vec<i64>) -> EntryList
         requires { length weights.items ≡ length keys.items }
         ensures { result ≡ zip keys.items weights.items }

@@ -22,7 +22,7 @@
 //! A tail is 32 bytes beside its bytes. No entries take no memory, up to 127 bytes one allocation, and
 //! more bytes two. An entry of weight 1 takes 1 to 5 bytes, another one up to 15.
 //!
-//! Sets in chunks, in which graphs keep the neighbours of a vertex that has many, stand on this crate.
+//! Sets in chunks, in which graphs keep the neighbours of a vertex that has many, depend on this crate.
 //! The byte code is the one of Aspen (Dhulipala, Blelloch, Shun, PLDI 2019), with weights and one spelling
 //! for each list.
 #![tactic(auto)]

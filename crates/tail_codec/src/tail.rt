@@ -20,7 +20,7 @@ use crate::writer::TailWriter;
 use std::alloc::{AllocError, Global};
 use std::marker::Model;
 
-/// Entries whose keys are below 2^32, ascend and stand above a base, or above none, kept in their
+/// Entries whose keys are below 2^32, ascend and are above a base, or above none, kept in their
 /// bytes. A contract sees the base and the entries, pairs of a key and a weight.
 pub struct Tail {
     base: Option<u32>,
@@ -162,7 +162,7 @@ impl Tail {
         TailIter::new(least_over(self.base), self.bytes.as_slice())
     }
 
-    /// The least key that may stand after the entries: one more than the last of them, or than the base
+    /// The least key that may be after the entries: one more than the last of them, or than the base
     /// where there is none. Takes time in proportion to the entries, and no memory.
     pub fn least_after(&self) -> u64
         ensures { result ≡ least_after (least self.now.base) (keys_of self.now.entries) }

@@ -69,9 +69,9 @@ impl TailWriter {
 }
 
 /// Writes the bytes of an entry after other bytes, where its key is `distance` above the least that
-/// might stand there.
+/// might be there.
 ///
-/// The only error is out of memory, and then a part of its bytes may stand after the others.
+/// The only error is out of memory, and then a part of its bytes may be after the others.
 #[inline]
 pub fn append_entry(bytes: &mut Vec<u8>, distance: u64, weight: i64) -> Result<(), AllocError>
     requires { distance < 2 ^ 32 }

@@ -1,7 +1,7 @@
-//! A program that stands on the libraries: it compiles a text, commits, holds a version, commits again, and runs the program on
+//! A program that uses the libraries: it compiles a text, commits, holds a version, commits again, and runs the program on
 //! both versions.
 //!
-//! `docs/LIBRARY.md` walks through it. It promises to be safe and to end, and no more. Nothing stands on this crate.
+//! `docs/LIBRARY.md` walks through it. It promises to be safe and to end, and no more. Nothing depends on this crate.
 #![tactic(auto)]
 
 use anyhow::{Result, anyhow};

@@ -1,7 +1,7 @@
-//! A program that stands on the libraries: a writer commits to a shared graph, and beside it a reader runs a program on the newest
+//! A program that uses the libraries: a writer commits to a shared graph, and beside it a reader runs a program on the newest
 //! version, again and again. What it prints does not depend on the threads.
 //!
-//! `docs/LIBRARY.md` walks through it. It promises to be safe, and no more. Nothing stands on this crate.
+//! `docs/LIBRARY.md` walks through it. It promises to be safe, and no more. Nothing depends on this crate.
 #![tactic(auto)]
 
 ghost use Rattle.std.specs.Prelude.{◌≡◌};

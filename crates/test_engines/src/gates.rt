@@ -6,8 +6,8 @@ use std::alloc::{AllocError, Global};
 use std::test::Fail;
 use std::thread::Threads;
 
-// Each piece answers what the gate was told of it before. A worker keeps what it was told of, by which it knows its own number, and
-// 0 where it was told of a piece as another worker.
+// Each piece answers what the gate was called with before. A worker keeps what it was called with, by which it knows its own number, and
+// 0 where it was called with a piece as another worker.
 #[derive(Drop)]
 struct Witness<'a>(&'a Roll);
 

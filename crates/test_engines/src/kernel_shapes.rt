@@ -7,7 +7,7 @@ use std::test::Fail;
 use test_oracle::checked;
 use typed_tree::Operator;
 
-// What stands before each function: two vectors and a constant.
+// What is before each function: two vectors and a constant.
 const HEAD: &str = "element Vertex end\nelement Edge end\n\
     const edges : edgeset{Edge}(Vertex, Vertex, int) = load(argv[1]);\n\
     const k : int = -3; const x : vector{Vertex}(int) = 5; const y : vector{Vertex}(int) = 1;\n";

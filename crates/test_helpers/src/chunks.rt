@@ -2,7 +2,7 @@
 
 use tree_batch::{Graph, NeighbourSet};
 
-/// Whether the neighbours of the first so many vertices stand in chunks of this size, in both directions.
+/// Whether the neighbours of the first so many vertices are in chunks of this size, in both directions.
 pub fn stand_in_chunks(graph: &Graph, hubs: u32, chunk_size: u32) -> bool {
     for hub in 0..hubs {
         let (out, into) = (chunk_size_of(graph.out(hub)), chunk_size_of(graph.in_(hub)));

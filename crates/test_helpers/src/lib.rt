@@ -1,7 +1,7 @@
 //! What several crates of tests share: the lines by which `bench/refused-growths` knows where a call begins and how it was
 //! answered, and the chunk size with which the neighbours of vertices stand.
 //!
-//! It promises to be safe and to end, and no more; only tests stand on it.
+//! It promises to be safe and to end, and no more; only tests depend on it.
 #![tactic(auto)]
 
 mod chunks;

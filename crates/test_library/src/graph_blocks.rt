@@ -50,7 +50,7 @@ fn resized(
     graph.apply(alloc, &batch)
 }
 
-// Whether a vertex has so many neighbours, in the form that is told.
+// Whether a vertex has so many neighbours, in the form that is reported.
 fn has(graph: &Graph, source: u32, count: u32, is_chunked: bool) -> bool {
     match graph.out(source) {
         Some(set) => set.len() == count as usize && set.chunked().is_some() == is_chunked,

@@ -2,7 +2,7 @@
 //! and sets, forms of lists, forks and threads. What a script or a program can show is a case in `crates/test_cases/data`, or a script
 //! in `tests/checks` that makes many, and what a contract says of every value is not said again here.
 //!
-//! They stand above the crates that they test, so that each of those is proved once.
+//! They are above the crates that they test, so that each of those is proved once.
 #![tactic(auto)]
 
 #[cfg(test)]

@@ -3,7 +3,7 @@
 //! A [`TestedProgram`] has the checked program of a text beside its plan, pass by pass as the compiler makes them. [`PROGRAMS`]
 //! are some that are run.
 //!
-//! It promises to be safe and to end, and no more; only programs that check or measure stand on it.
+//! It promises to be safe and to end, and no more; only programs that check or measure depend on it.
 #![tactic(auto)]
 
 mod programs;

@@ -9,7 +9,7 @@ use std::test::Fail;
 use tree_batch::Entry;
 use version_list::{Reply, Which};
 
-// Where a search of the fork stands after six steps.
+// Where a search of the fork is after six steps.
 const ON_THE_FORK: Shown<'static> = Shown {
     entries: &[0, 0, 0, -1, -1, -1],
     members: &[1, 2],
@@ -18,7 +18,7 @@ const ON_THE_FORK: Shown<'static> = Shown {
     turns: 1,
 };
 
-// Where it stands where the fork has one branch.
+// Where it is where the fork has one branch.
 const ON_ONE_BRANCH: Shown<'static> = Shown {
     entries: &[0, 0, -1, -1, -1, -1],
     members: &[1],

@@ -266,7 +266,7 @@ impl PlainWorld {
     }
 }
 
-// How a run of a plan on a graph stands after as many steps as were asked of a job, and what it shows.
+// How a run of a plan on a graph is after as many steps as were asked of a job, and what it shows.
 fn run_afresh(
     alloc: Global,
     plan: &Arc<Plan>,

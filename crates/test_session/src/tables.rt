@@ -14,7 +14,7 @@ use tree_batch::Entry;
 use version_list::Reply::{Refused, Released, Ticket, Version};
 use version_list::Which::{At, Newest};
 
-// Where a search of the fork stands after seven steps.
+// Where a search of the fork is after seven steps.
 const HALFWAY: Shown<'static> = Shown {
     entries: &[0, 0, 0, -1, -1, -1],
     members: &[1, 2],
@@ -104,7 +104,7 @@ const TURNS_OVER: &[Row] = &[
     Shows(1, HALFWAY),
 ];
 
-// A job stays at its fault, and others go on.
+// A job stays at its fault, and others continue.
 const FAULT: &[Row] = &[
     Takes(Commit(FORK), Of(Version(1))),
     Takes(Acquire(At(1)), Of(Ticket(1, 1))),
@@ -119,7 +119,7 @@ const FAULT: &[Row] = &[
     Shows(1, HALFWAY),
 ];
 
-// A job on a smaller version goes on after growth, as one that is started on it later.
+// A job on a smaller version continues after growth, as one that is started on it later.
 const GROWTH: &[Row] = &[
     Takes(Commit(FORK), Of(Version(1))),
     Takes(Acquire(Newest), Of(Ticket(1, 1))),

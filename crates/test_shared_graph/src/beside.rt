@@ -127,7 +127,7 @@ fn readers_are_given_the_newest_after_up_to_100000_commits(rt: HostRuntime) -> R
 }
 
 // The trims of two readers drop as many entries as they commit, hold and release, while the numbers rise for a third. No more than
-// ten are kept: eight of the one that commits, and two of the other. Then each of both goes on alone.
+// ten are kept: eight of the one that commits, and two of the other. Then each of both continues alone.
 const ROOM_OF_TEN: Table = Table {
     vertices: 1,
     chunk_size: 64,

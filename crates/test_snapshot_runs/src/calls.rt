@@ -32,7 +32,7 @@ pub(crate) enum Call {
     Text(Program, usize),
     /// Runs it on one of the versions that are held, of which the first is 0.
     Held(usize, Program, usize),
-    /// Runs it on the newest version, and once more where memory runs out for it.
+    /// Runs it on the newest version, and once more if memory runs out for it.
     Asked(Program, usize),
     /// Commits again and again, while the next reader runs the search.
     Beside,

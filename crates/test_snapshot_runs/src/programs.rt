@@ -117,7 +117,7 @@ impl Program {
         ended && vector.entries.as_slice() == shown.entries
     }
 
-    /// The number of the version, if a run on it by so many workers shows what it must, and its gate was told of each piece: a
+    /// The number of the version, if a run on it by so many workers shows what it must, and its gate was called with each piece: a
     /// turn has one for each worker, and at most one for each vertex.
     pub(crate) fn answer(
         self,

@@ -100,7 +100,7 @@ fn a_run_by_two_workers(rt: HostRuntime) -> Result<(), Fail> {
     Ok(())
 }
 
-// A run on the second version is answered by its path, be it at the second attempt, and the graph goes on.
+// A run on the second version is answered by its path, be it at the second attempt, and the graph continues.
 const NEWEST: Table = Table {
     vertices: 4,
     readers: 2,

@@ -181,7 +181,7 @@ fn each_held_version_has_its_own_vertices(rt: HostRuntime) -> Result<(), Fail> {
 }
 
 // All commits are made, each run beside them is of its version, and so is one of the last version after the writer is joined, though
-// the reader was told nothing.
+// nothing was reported to the reader.
 const BESIDE: Table = Table {
     vertices: 4,
     readers: 2,

@@ -17,7 +17,7 @@ module _ (k : ℕ) (left : Block) (bs : List (ℕ × Block)) (u : ℕ) (xs : Lis
   rest_left = record {
     number = ok.number;
     vertices = record { map = entries.rises_from 0 (u + 1) 64 rest (omega arith) block.map.1; lists = block.lists.1 };
-    behind = ok.behind;
+    later = ok.later;
   }
 
 -- the first of blocks is begun
@@ -27,5 +27,5 @@ block_begun bs later k b ok is =
     record {
       number = omega (arith, entries.rises_room (k + 1) (2 ^ 18) later here.map.1);
       vertices = here.blocks.0;
-      behind = record { map = entries.rises_from 0 (k + 1) (2 ^ 18) later (omega arith) here.map.1; blocks = here.blocks.2 };
+      later = record { map = entries.rises_from 0 (k + 1) (2 ^ 18) later (omega arith) here.map.1; blocks = here.blocks.2 };
     }

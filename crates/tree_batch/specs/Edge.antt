@@ -15,7 +15,7 @@ Ends = ℕ × ℕ
 abbrev pub ends_of : Edge → Ends
 ends_of e = (e.0, e.1)
 
--- where ends stand in the order by source and then by destination, for destinations below 2 ^ 32
+-- where ends are in the order by source and then by destination, for destinations below 2 ^ 32
 abbrev pub index : Ends → ℕ
 index p = p.0 * 2 ^ 32 + p.1
 
@@ -32,12 +32,12 @@ weight_in p (e ∷ es) = if ends_eq (ends_of e) p then Some e.2 else weight_in p
 abbrev pub IsWithin : ℕ → Ends → Type 0
 IsWithin n p = (p.0 < n) × (p.1 < n)
 
--- the edges stand in order, each once, at indices from low up to high
+-- the edges are in order, each once, at indices from low up to high
 abbrev pub EdgesRise : ℕ → ℕ → List Edge → Type 0
 EdgesRise low high [] = low ≤ high
 EdgesRise low high (e ∷ es) = (low ≤ index (ends_of e)) × (e.1 < 2 ^ 32) × EdgesRise (index (ends_of e) + 1) high es
 
--- each edge stands after the one before it
+-- each edge is after the one before it
 abbrev pub IsAscending : List Edge → Type 0
 IsAscending es = EdgesRise 0 (2 ^ 64) es
 

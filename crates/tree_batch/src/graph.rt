@@ -122,7 +122,7 @@ impl Graph {
     /// threads at n levels, at most 6. Where one block of 64 vertices has more than half of the
     /// entries, what is beside it is not forked, and where one vertex of it has more than half of these,
     /// the set of that vertex goes by halves. Where no thread can be started, the caller does both
-    /// halves. The answer is that of `apply` whatever `forks` is. `fork` is told of each half that
+    /// halves. The answer is that of `apply` whatever `forks` is. `fork` is called with each half that
     /// begins, first of those of the edges by source and then of those by destination.
     ///
     /// Errors: those of [`Graph::apply`].
@@ -210,7 +210,7 @@ impl Graph {
         self.weight(source, destination).is_some()
     }
 
-    /// The weight of the edge from `source` to `destination`, or `None` where it is not there. It takes
+    /// The weight of the edge from `source` to `destination`, or `None` if it is not there. It takes
     /// logarithmic time and no memory.
     pub fn weight(&self, source: u32, destination: u32) -> Option<i64>
         ensures { result ≡ weight_in (source, destination) self.now.edges }

@@ -158,10 +158,10 @@ signed_clear at sign v clear none = given_clear at rule.WrongType (signed_value 
 entity_clear : (At : Vertices) (name : List ℕ) (e : Entity) → EntityIsKnown At name e → MaybeClear (named_value e)
 entity_clear At name entity.Error known = known
 entity_clear At name (entity.ConstantSet slot) known = tt
-entity_clear At name (entity.IntegerConstant own n) known = tt
-entity_clear At name (entity.ConditionConstant own b) known = tt
-entity_clear At name (entity.IntegerVariable slot) known = tt
-entity_clear At name (entity.ConditionVariable slot) known = tt
+entity_clear At name (entity.IntConstant own n) known = tt
+entity_clear At name (entity.BoolConstant own b) known = tt
+entity_clear At name (entity.IntVariable slot) known = tt
+entity_clear At name (entity.BoolVariable slot) known = tt
 entity_clear At name (entity.SetVariable slot) known = tt
 entity_clear At name (entity.LoopVariable slot) known = tt
 entity_clear At name (entity.Parameter p) known = tt

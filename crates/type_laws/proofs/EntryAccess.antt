@@ -24,7 +24,7 @@ use Rattle.types.specs.Declaration.{DeclaredTree, FunctionKindTree, MainKind, Ed
 use Rattle.types.specs.Declaration.{kind_fits, kind_of, main_declared, opened, steps_declared, takes_nothing, is_int_type, takes_weight}
 use Rattle.type_laws.specs.EntryAccess.{AccessesEntriesWell, AccessesOwnVertices, ActionAccesses, BlockAccesses, ExpressionReadsAt, HasNoEntry, InitialReadsAt, IsNameAmong}
 use Rattle.types.specs.Initial.{initializer_of}
-use Rattle.types.specs.Program.{opening, program_of, set_count}
+use Rattle.types.specs.Program.{no_declarations, program_of, set_count}
 use Rattle.types.specs.Statement.{add_vertex, assign, print, reduce, reduce_entry, set_entry}
 use Rattle.types.specs.Step.{assign_step, at_own, may_reduce, may_set, own_vertex, reduce_step, same_endpoint, set_entry_step, step_after, step_typed, steps_after, steps_typed, written_at}
 use Rattle.type_laws.proofs.Booleans.{both_true}
@@ -425,7 +425,7 @@ all_apply (x ∷ others) all nothing = (all.0 nothing.0, all_apply others all.1 
 
 pub entries_are_accessed_well : (source : SourceTree) (length : ℕ) → (program_of source length).faults ≡ [] → AllByRecursion AccessesEntriesWell source.declarations
 entries_are_accessed_well source length none =
-    let start = opening (set_count source.declarations) in
+    let start = no_declarations (set_count source.declarations) in
     let all = each_declaration AllKnown (λ x. MainTakesNothing x → AccessesEntriesWell x) declaration_accesses start source.declarations (refl, tt)
     (no_left (declarations_typed start source.declarations).faults _ none) in
     all_apply source.declarations all (mains_take_nothing source length none)

@@ -106,10 +106,10 @@ named_typed : (at : ℕ) (e : Entity) → (e ≡ entity.Error → ⊥) → (give
 named_typed at (entity.Edges weights) clear none = absurd (not_empty _ _ none)
 named_typed at (entity.Vector index) clear none = absurd (not_empty _ _ none)
 named_typed at (entity.ConstantSet slot) clear none = record { type = Set; has = refl; is = tt }
-named_typed at (entity.IntegerConstant name n) clear none = record { type = Number; has = refl; is = tt }
-named_typed at (entity.ConditionConstant name b) clear none = record { type = Truth; has = refl; is = tt }
-named_typed at (entity.IntegerVariable slot) clear none = record { type = Number; has = refl; is = tt }
-named_typed at (entity.ConditionVariable slot) clear none = record { type = Truth; has = refl; is = tt }
+named_typed at (entity.IntConstant name n) clear none = record { type = Number; has = refl; is = tt }
+named_typed at (entity.BoolConstant name b) clear none = record { type = Truth; has = refl; is = tt }
+named_typed at (entity.IntVariable slot) clear none = record { type = Number; has = refl; is = tt }
+named_typed at (entity.BoolVariable slot) clear none = record { type = Truth; has = refl; is = tt }
 named_typed at (entity.SetVariable slot) clear none = record { type = Set; has = refl; is = tt }
 named_typed at (entity.LoopVariable slot) clear none = record { type = Number; has = refl; is = tt }
 named_typed at (entity.Parameter p) clear none = record { type = Vertex p; has = refl; is = refl }
@@ -129,10 +129,10 @@ vector_typed : (at : ℕ) (names : Meanings) (name : Identifier) (e : Entity) �
 vector_typed at names name (entity.Edges weights) m none = absurd (not_empty _ _ none)
 vector_typed at names name (entity.Vector index) m none = record { vector = index; means = m.means; index = refl }
 vector_typed at names name (entity.ConstantSet slot) m none = absurd (not_empty _ _ none)
-vector_typed at names name (entity.IntegerConstant x n) m none = absurd (not_empty _ _ none)
-vector_typed at names name (entity.ConditionConstant x b) m none = absurd (not_empty _ _ none)
-vector_typed at names name (entity.IntegerVariable slot) m none = absurd (not_empty _ _ none)
-vector_typed at names name (entity.ConditionVariable slot) m none = absurd (not_empty _ _ none)
+vector_typed at names name (entity.IntConstant x n) m none = absurd (not_empty _ _ none)
+vector_typed at names name (entity.BoolConstant x b) m none = absurd (not_empty _ _ none)
+vector_typed at names name (entity.IntVariable slot) m none = absurd (not_empty _ _ none)
+vector_typed at names name (entity.BoolVariable slot) m none = absurd (not_empty _ _ none)
 vector_typed at names name (entity.SetVariable slot) m none = absurd (not_empty _ _ none)
 vector_typed at names name (entity.LoopVariable slot) m none = absurd (not_empty _ _ none)
 vector_typed at names name (entity.Parameter p) m none = absurd (not_empty _ _ none)

@@ -36,7 +36,7 @@ use Rattle.types.specs.Initial.{ApplyEndTree, Degrees, ErrorInitializer, Initial
 use Rattle.types.specs.Initial.{is_all, is_degrees, is_edges, is_error_end, is_loaded, is_sound, is_wrong, loaded, initial_modified, modified_by, names_error, new_set, of_edges, vector_of}
 use Rattle.types.specs.Initial.{writes_vector, lacks_weights}
 use Rattle.types.specs.Literal.{literal_condition, literal_integer}
-use Rattle.types.specs.Program.{main_of, opening, program_of, set_count}
+use Rattle.types.specs.Program.{main_of, no_declarations, program_of, set_count}
 use Rattle.types.specs.Step.{steps_typed}
 use Rattle.type_laws.specs.ExpressionTypes.{ExpressionType, Number, Set, Truth, Vertex}
 use Rattle.type_laws.specs.KeptRules.{ConstantKeeps, DeclarationKeeps, Declarations, DeclarationsKeep, FunctionKeeps, KeepsRules, MainKeeps, after_declaration, after_function, after_main}
@@ -268,7 +268,7 @@ constant_keeps d k s at p initial declared.Int none =
     let x = literal_or_fault at (is_sound g.value) (pos 0) (literal_integer initial) in
     let sound = given_sound d.checker (record k.known { reduced = d.checker.writes }) (checker_sees d.checker k.known s.agrees.checker s.some) at initial given in (
       literal_is at (is_sound g.value) (pos 0) (literal_integer initial) sound (no_left x.faults _ after_g),
-      constant_is_new d k s p.name (entity.IntegerConstant (next_name d) x.value) (no_right x.faults _ after_g),
+      constant_is_new d k s p.name (entity.IntConstant (next_name d) x.value) (no_right x.faults _ after_g),
     )
 constant_keeps d k s at p initial declared.Bool none =
     let g = initializer_of d.checker at initial in
@@ -277,7 +277,7 @@ constant_keeps d k s at p initial declared.Bool none =
     let x = literal_or_fault at (is_sound g.value) false (literal_condition initial) in
     let sound = given_sound d.checker (record k.known { reduced = d.checker.writes }) (checker_sees d.checker k.known s.agrees.checker s.some) at initial given in (
       literal_is at (is_sound g.value) false (literal_condition initial) sound (no_left x.faults _ after_g),
-      constant_is_new d k s p.name (entity.ConditionConstant (next_name d) x.value) (no_right x.faults _ after_g),
+      constant_is_new d k s p.name (entity.BoolConstant (next_name d) x.value) (no_right x.faults _ after_g),
     )
 constant_keeps d k s at p initial declared.Vertex none = absurd (not_empty _ _ (no_right (initializer_of d.checker at initial).faults _ none))
 constant_keeps d k s at p initial declared.VertexSet none =
@@ -387,13 +387,13 @@ filter_keeps d k s at name v test body is also none =
     let o = opened d.checker FilterKind (v ∷ []) (Some test) in
     let c = begun d.checker inside.Filter in
     let p = declared_in c v.name (parameter false endpoint.Source v.declared) in
-    let r = declared_in p.value test.name (entity.ConditionVariable (condition_slot p.value)) in
+    let r = declared_in p.value test.name (entity.BoolVariable (condition_slot p.value)) in
     let first = begun_sees d.checker k.known inside.Filter s.agrees.checker s.some in
     let sound = no_left o.faults _ none in
     let new = parameter_is_new false inside.Filter c (known_in_main k.known) first v endpoint.Source (no_left p.faults [] (no_left (p.faults ++ []) r.faults sound)) in
     let one = parameter_opens false inside.Filter c (known_in_main k.known) first.matches endpoint.Source v is new in
     let inner : Sees inside.Filter p.value (known_at_vertex k.known v) = record { matches = one.1; some = more_some k.known.names v.name.bytes (meaning.Parameter endpoint.Source) s.some tt } in
-    let result_new = declares_new inside.Filter p.value (known_at_vertex k.known v) inner test.name (entity.ConditionVariable (condition_slot p.value)) (no_right (p.faults ++ []) r.faults sound) in
+    let result_new = declares_new inside.Filter p.value (known_at_vertex k.known v) inner test.name (entity.BoolVariable (condition_slot p.value)) (no_right (p.faults ++ []) r.faults sound) in
     let opens = filter_opens d.checker k.known s.agrees.checker v test is new result_new in
     let within : Sees inside.Filter o.value (known_in_filter k.known v test) = record {
       matches = opens.1;
@@ -609,7 +609,7 @@ main_found length (Some main) none = refl
 
 pub source_keeps : (source : SourceTree) (length : ℕ) → (program_of source length).faults ≡ [] → KeepsRules source
 source_keeps source length none =
-    let begins_at = opening (set_count source.declarations) in
+    let begins_at = no_declarations (set_count source.declarations) in
     let d = declarations_typed begins_at source.declarations in
     let first : SeesAll begins_at nothing_declared = record {
       agrees = record { checker = record { names = refl; labels = refl; written = refl; inside = refl }; vectors = refl; functions = refl; edges = refl; main = refl };

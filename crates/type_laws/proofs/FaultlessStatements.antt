@@ -78,7 +78,7 @@ declare_keeps c k s at name initial declared.Int none =
     let after_g = no_right g.faults _ none in
     let d = no_right x.faults _ after_g in (
       gives_number inside.Main c k s at initial (no_left g.faults _ none) (no_left x.faults _ after_g),
-      declares_new inside.Main c k s name (entity.IntegerVariable (integer_slot c)) (no_left (declared_in c name (entity.IntegerVariable (integer_slot c))).faults [] d),
+      declares_new inside.Main c k s name (entity.IntVariable (integer_slot c)) (no_left (declared_in c name (entity.IntVariable (integer_slot c))).faults [] d),
     )
 declare_keeps c k s at name initial declared.Bool none =
     let g = initializer_of c at initial in
@@ -86,7 +86,7 @@ declare_keeps c k s at name initial declared.Bool none =
     let after_g = no_right g.faults _ none in
     let d = no_right x.faults _ after_g in (
       gives_truth inside.Main c k s at initial (no_left g.faults _ none) (no_left x.faults _ after_g),
-      declares_new inside.Main c k s name (entity.ConditionVariable (condition_slot c)) (no_left (declared_in c name (entity.ConditionVariable (condition_slot c))).faults [] d),
+      declares_new inside.Main c k s name (entity.BoolVariable (condition_slot c)) (no_left (declared_in c name (entity.BoolVariable (condition_slot c))).faults [] d),
     )
 declare_keeps c k s at name initial declared.VertexSet none =
     let g = initializer_of c at initial in
@@ -105,9 +105,9 @@ declare_keeps c k s at name initial declared.WeightedEdgeSet none = absurd (not_
 assigned_fits : (c : CheckerTree) (k : Known) → Sees inside.Main c k → (at : ℕ) (name : Identifier) (initial : InitialTree) → (initializer_of c at initial).faults ≡ [] → (e : Entity)
     → IsMeant k.names name e
     → (assigned at (initializer_of c at initial).value e).faults ≡ [] → AssignFits inside.Main k name initial
-assigned_fits c k s at name initial given (entity.IntegerVariable slot) is none =
+assigned_fits c k s at name initial given (entity.IntVariable slot) is none =
     AssignsNumber is.means (gives_number inside.Main c k s at initial given (no_left (initializer_integer at (initializer_of c at initial).value).faults [] none))
-assigned_fits c k s at name initial given (entity.ConditionVariable slot) is none =
+assigned_fits c k s at name initial given (entity.BoolVariable slot) is none =
     AssignsTruth is.means (gives_truth inside.Main c k s at initial given (no_left (initializer_condition at (initializer_of c at initial).value).faults [] none))
 assigned_fits c k s at name initial given (entity.SetVariable slot) is none =
     AssignsSet is.means tt (gives_members inside.Main c k s at initial given (no_left (initializer_members at (initializer_of c at initial).value).faults [] none))
@@ -125,7 +125,7 @@ assign_keeps c k s at name initial none =
 -- reductions, and vertices that are added
 reduced_is : (names : Meanings) (at : ℕ) (name : Identifier) (by : Reduction) (v : ValueTree) (e : Entity) → IsMeant names name e → (reduced at by v e).faults ≡ []
     → (found name.bytes names ≡ Some meaning.NumberVariable) × ((integer_wanted at v).faults ≡ [])
-reduced_is names at name by v (entity.IntegerVariable slot) is none = (is.means, no_left (integer_wanted at v).faults [] none)
+reduced_is names at name by v (entity.IntVariable slot) is none = (is.means, no_left (integer_wanted at v).faults [] none)
 reduced_is names at name by v entity.Error is none = absurd (is.clear refl)
 reduced_is names at name by v _ is none = absurd (not_empty _ _ none)
 

@@ -46,7 +46,7 @@ declare_step_keeps i c k s at name initial declared.Int none =
     let after_g = no_right g.faults _ none in
     let d = no_right x.faults _ after_g in (
       gives_number i c k s at initial (no_left g.faults _ none) (no_left x.faults _ after_g),
-      declares_new i c k s name (entity.IntegerVariable (integer_slot c)) (no_left (declared_in c name (entity.IntegerVariable (integer_slot c))).faults [] d),
+      declares_new i c k s name (entity.IntVariable (integer_slot c)) (no_left (declared_in c name (entity.IntVariable (integer_slot c))).faults [] d),
     )
 declare_step_keeps i c k s at name initial declared.Bool none =
     let g = initializer_of c at initial in
@@ -54,7 +54,7 @@ declare_step_keeps i c k s at name initial declared.Bool none =
     let after_g = no_right g.faults _ none in
     let d = no_right x.faults _ after_g in (
       gives_truth i c k s at initial (no_left g.faults _ none) (no_left x.faults _ after_g),
-      declares_new i c k s name (entity.ConditionVariable (condition_slot c)) (no_left (declared_in c name (entity.ConditionVariable (condition_slot c))).faults [] d),
+      declares_new i c k s name (entity.BoolVariable (condition_slot c)) (no_left (declared_in c name (entity.BoolVariable (condition_slot c))).faults [] d),
     )
 declare_step_keeps i c k s at name initial declared.VertexSet none = absurd (not_empty _ _ (no_right (initializer_of c at initial).faults _ none))
 declare_step_keeps i c k s at name initial declared.Vertex none = absurd (not_empty _ _ (no_right (initializer_of c at initial).faults _ none))
@@ -65,9 +65,9 @@ declare_step_keeps i c k s at name initial declared.WeightedEdgeSet none = absur
 assigned_step_fits : (i : Inside) (c : CheckerTree) (k : Known) → Sees i c k → (at : ℕ) (name : Identifier) (initial : InitialTree) → (initializer_of c at initial).faults ≡ [] → (e : Entity)
     → IsMeant k.names name e
     → (assigned_step at (initializer_of c at initial).value e).faults ≡ [] → AssignFits i k name initial
-assigned_step_fits i c k s at name initial given (entity.IntegerVariable slot) is none =
+assigned_step_fits i c k s at name initial given (entity.IntVariable slot) is none =
     AssignsNumber is.means (gives_number i c k s at initial given (no_left (initializer_integer at (initializer_of c at initial).value).faults [] none))
-assigned_step_fits i c k s at name initial given (entity.ConditionVariable slot) is none =
+assigned_step_fits i c k s at name initial given (entity.BoolVariable slot) is none =
     AssignsTruth is.means (gives_truth i c k s at initial given (no_left (initializer_condition at (initializer_of c at initial).value).faults [] none))
 assigned_step_fits i c k s at name initial given entity.Error is none = absurd (is.clear refl)
 assigned_step_fits i c k s at name initial given _ is none = absurd (not_empty _ _ none)
@@ -82,7 +82,7 @@ assign_step_keeps i c k s at name initial none =
 
 reduced_step_is : (names : Meanings) (at : ℕ) (name : Identifier) (by : Reduction) (v : ValueTree) (e : Entity) → IsMeant names name e → (reduced_step at by v e).faults ≡ []
     → (found name.bytes names ≡ Some meaning.NumberVariable) × ((integer_wanted at v).faults ≡ [])
-reduced_step_is names at name by v (entity.IntegerVariable slot) is none = (is.means, no_left (integer_wanted at v).faults [] none)
+reduced_step_is names at name by v (entity.IntVariable slot) is none = (is.means, no_left (integer_wanted at v).faults [] none)
 reduced_step_is names at name by v entity.Error is none = absurd (is.clear refl)
 reduced_step_is names at name by v _ is none = absurd (not_empty _ _ none)
 

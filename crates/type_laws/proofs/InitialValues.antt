@@ -14,7 +14,7 @@ use Rattle.types.specs.Declaration.{DeclaredTree, FunctionKindTree, MainKind, Ed
 use Rattle.types.specs.Declaration.{main_declared, opened, steps_declared}
 use Rattle.types.specs.Initial.{initializer_of, loaded, new_set}
 use Rattle.type_laws.specs.InitialValues.{ActionInitialsFit, BlockInitialsFit, DeclarationInitialsFit, InitialFits}
-use Rattle.types.specs.Program.{opening, program_of, set_count}
+use Rattle.types.specs.Program.{no_declarations, program_of, set_count}
 use Rattle.types.specs.Statement.{assign}
 use Rattle.types.specs.Step.{assign_step, step_after, step_typed, steps_after, steps_typed}
 use Rattle.type_laws.proofs.EachDeclaration.{each_declaration}
@@ -153,5 +153,5 @@ declaration_initials_fit d (source.Function at name parameters result body) know
 
 pub initials_fit : (source : SourceTree) (length : ℕ) → (program_of source length).faults ≡ [] → AllByRecursion DeclarationInitialsFit source.declarations
 initials_fit source length none =
-    let start = opening (set_count source.declarations) in
+    let start = no_declarations (set_count source.declarations) in
     each_declaration (λ d. Unit {0}) DeclarationInitialsFit declaration_initials_fit start source.declarations tt (no_left (declarations_typed start source.declarations).faults _ none)

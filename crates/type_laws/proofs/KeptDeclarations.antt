@@ -139,9 +139,9 @@ number_constant : (d : DeclaredTree) (k : Declarations) → Agrees d k → (at :
     → IsSome (literal_integer initial) → IsNew k.known p.name → Fits (declare_constant_as d at p.name initial declared.Int given) (after_constant k p)
 number_constant d k a at p initial given type is new =
     let x = literal_or_fault at (is_sound given) (pos 0) (literal_integer initial) in
-    let c = constant_declared d k a p.name (entity.IntegerConstant (next_name d) x.value) meaning.NumberConstant refl new in (
+    let c = constant_declared d k a p.name (entity.IntConstant (next_name d) x.value) meaning.NumberConstant refl new in (
       both_none x.faults _ (literal_there at (is_sound given) (pos 0) (literal_integer initial) is) c.0,
-      subst (λ t. Agrees (declare_name d p.name (entity.IntegerConstant (next_name d) x.value)).value (after_constant k (record p { declared = t }))) (sym type)
+      subst (λ t. Agrees (declare_name d p.name (entity.IntConstant (next_name d) x.value)).value (after_constant k (record p { declared = t }))) (sym type)
           (record { checker = c.1; vectors = a.vectors; functions = a.functions; edges = a.edges; main = a.main }),
     )
 
@@ -149,9 +149,9 @@ truth_constant : (d : DeclaredTree) (k : Declarations) → Agrees d k → (at : 
     → IsSome (literal_condition initial) → IsNew k.known p.name → Fits (declare_constant_as d at p.name initial declared.Bool given) (after_constant k p)
 truth_constant d k a at p initial given type is new =
     let x = literal_or_fault at (is_sound given) false (literal_condition initial) in
-    let c = constant_declared d k a p.name (entity.ConditionConstant (next_name d) x.value) meaning.TruthConstant refl new in (
+    let c = constant_declared d k a p.name (entity.BoolConstant (next_name d) x.value) meaning.TruthConstant refl new in (
       both_none x.faults _ (literal_there at (is_sound given) false (literal_condition initial) is) c.0,
-      subst (λ t. Agrees (declare_name d p.name (entity.ConditionConstant (next_name d) x.value)).value (after_constant k (record p { declared = t }))) (sym type)
+      subst (λ t. Agrees (declare_name d p.name (entity.BoolConstant (next_name d) x.value)).value (after_constant k (record p { declared = t }))) (sym type)
           (record { checker = c.1; vectors = a.vectors; functions = a.functions; edges = a.edges; main = a.main }),
     )
 

@@ -97,12 +97,12 @@ pub vector_entity : (e : Entity) (n : ℕ) → meaning_of e ≡ meaning.Vector n
 vector_entity (entity.Vector index) n is = cc
 vector_entity _ n is = absurd cc
 
-pub number_variable : (e : Entity) → meaning_of e ≡ meaning.NumberVariable → (slot : VarRef) × (e ≡ entity.IntegerVariable slot)
-number_variable (entity.IntegerVariable slot) is = (slot, refl)
+pub number_variable : (e : Entity) → meaning_of e ≡ meaning.NumberVariable → (slot : VarRef) × (e ≡ entity.IntVariable slot)
+number_variable (entity.IntVariable slot) is = (slot, refl)
 number_variable _ is = absurd cc
 
-pub truth_variable : (e : Entity) → meaning_of e ≡ meaning.TruthVariable → (slot : VarRef) × (e ≡ entity.ConditionVariable slot)
-truth_variable (entity.ConditionVariable slot) is = (slot, refl)
+pub truth_variable : (e : Entity) → meaning_of e ≡ meaning.TruthVariable → (slot : VarRef) × (e ≡ entity.BoolVariable slot)
+truth_variable (entity.BoolVariable slot) is = (slot, refl)
 truth_variable _ is = absurd cc
 
 pub set_variable : (e : Entity) → meaning_of e ≡ meaning.SetVariable → (slot : VarRef) × (e ≡ entity.SetVariable slot)

@@ -22,7 +22,7 @@ use Rattle.types.specs.Block.{statements_typed}
 use Rattle.types.specs.Checker.{CheckerTree, condition_slot, declared_in, restarted, in_scope}
 use Rattle.types.specs.Declaration.{DeclaredTree, EdgeKind, FilterKind, MainKind, NoKind, VertexKind, declaration_typed, declarations_typed, declare_function, declare_name, is_bool_type}
 use Rattle.types.specs.Declaration.{is_vertex_type, kind_of, main_bytes, main_declared, opened, parameter, steps_declared, takes_nothing, is_int_type}
-use Rattle.types.specs.Program.{main_of, opening, program_of, set_count}
+use Rattle.types.specs.Program.{main_of, no_declarations, program_of, set_count}
 use Rattle.types.specs.Step.{steps_typed, with_writes}
 use Rattle.type_laws.specs.KeptRules.{BlockKeeps, DeclarationKeeps, Declarations, DeclarationsKeep, FunctionKeeps, KeepsRules, MainKeeps, after_declaration, after_function, after_main}
 use Rattle.type_laws.specs.KeptRules.{known_at_vertex, known_in_filter, known_in_main, known_on_edge, nothing_declared, known_on_weighted_edge, edge_function_after}
@@ -102,8 +102,8 @@ filter_opens c k a v test is new also =
     let s = begun c inside.Filter in
     let d = declared_in s v.name (parameter false endpoint.Source v.declared) in
     let one = parameter_opens false inside.Filter s (known_in_main k) (begun_matches c k inside.Filter a) endpoint.Source v is new in
-    let r = declared_in d.value test.name (entity.ConditionVariable (condition_slot d.value)) in
-    let two = declared_kept inside.Filter d.value (known_at_vertex k v) one.1 test.name (entity.ConditionVariable (condition_slot d.value)) meaning.TruthVariable refl also in
+    let r = declared_in d.value test.name (entity.BoolVariable (condition_slot d.value)) in
+    let two = declared_kept inside.Filter d.value (known_at_vertex k v) one.1 test.name (entity.BoolVariable (condition_slot d.value)) meaning.TruthVariable refl also in
     (both_none (d.faults ++ []) r.faults (both_none d.faults [] one.0 refl) two.0, two.1)
 
 pub edge_opens : (c : CheckerTree) (k : Known) → CheckerAgrees c k → (src dst : ParameterTree) → src.declared ≡ declared.Vertex → dst.declared ≡ declared.Vertex → IsNew k src.name
@@ -309,7 +309,7 @@ main_there length (Some main) is = refl
 
 pub source_kept : (source : SourceTree) (length : ℕ) → KeepsRules source → (program_of source length).faults ≡ []
 source_kept source length keeps =
-    let begins = opening (set_count source.declarations) in
+    let begins = no_declarations (set_count source.declarations) in
     let all = declarations_kept begins nothing_declared (record {
       checker = record { names = refl; labels = refl; written = refl; inside = refl };
       vectors = refl;

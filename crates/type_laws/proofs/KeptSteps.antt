@@ -8,7 +8,7 @@ use Rattle.syntax.specs.declared.declaration.DeclaredType.{DeclaredType}
 use Rattle.syntax.specs.declared.declaration.DeclaredType.TheVariants as declared
 use Rattle.apply_options.specs.declared.reduction.Reduction.{Reduction}
 use Rattle.apply_options.specs.declared.reduction.Reduction.TheVariants as reduction
-use Rattle.typed_tree.specs.FunctionStatementTree.{DeclareCondition, DeclareInteger, NoStep, FunctionStatementTree, FunctionStatementsTree}
+use Rattle.typed_tree.specs.FunctionStatementTree.{DeclareBool, DeclareInt, NoStep, FunctionStatementTree, FunctionStatementsTree}
 use Rattle.typed_tree.specs.declared.expression.Endpoint.{Endpoint}
 use Rattle.typed_tree.specs.declared.expression.Endpoint.TheVariants as endpoint
 use Rattle.expression_types.specs.declared.scope.Entity.TheVariants as entity
@@ -56,12 +56,12 @@ declare_step_kept : (i : Inside) (c : CheckerTree) (k : Known) → IsUser i → 
 declare_step_kept i c k user m at name initial declared.Int fits new =
     let g = initializer_of c at initial in
     let x = given_number i c k m at initial fits in
-    let d = declares i c k m name (entity.IntegerVariable (integer_slot c)) meaning.NumberVariable refl new (initializer_integer at g.value) x.1 (DeclareInteger (length c.names)) in
+    let d = declares i c k m name (entity.IntVariable (integer_slot c)) meaning.NumberVariable refl new (initializer_integer at g.value) x.1 (DeclareInt (length c.names)) in
     (both_none g.faults _ x.0 d.0, d.1)
 declare_step_kept i c k user m at name initial declared.Bool fits new =
     let g = initializer_of c at initial in
     let x = given_truth i c k m at initial fits in
-    let d = declares i c k m name (entity.ConditionVariable (condition_slot c)) meaning.TruthVariable refl new (initializer_condition at g.value) x.1 (DeclareCondition (length c.names)) in
+    let d = declares i c k m name (entity.BoolVariable (condition_slot c)) meaning.TruthVariable refl new (initializer_condition at g.value) x.1 (DeclareBool (length c.names)) in
     (both_none g.faults _ x.0 d.0, d.1)
 declare_step_kept i c k user m at name initial declared.VertexSet fits new = no_sets i user fits.0
 declare_step_kept i c k user m at name initial declared.Vertex fits new = absurd fits

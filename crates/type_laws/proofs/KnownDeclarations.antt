@@ -84,7 +84,7 @@ result_known At i c kind None fits known none = known
 result_known At i c (MainKind main) (Some result) fits known none = absurd fits
 result_known At i c (EdgeKind weighted) (Some result) fits known none = absurd fits
 result_known At i c VertexKind (Some result) fits known none = absurd fits
-result_known At i c FilterKind (Some result) fits known none = declared_known At i c result.name (entity.ConditionVariable (condition_slot c)) known tt none
+result_known At i c FilterKind (Some result) fits known none = declared_known At i c result.name (entity.BoolVariable (condition_slot c)) known tt none
 result_known At i c NoKind (Some result) fits known none = absurd fits
 
 pub opened_known : (At : Vertices) (c : CheckerTree) (kind : FunctionKindTree) (parameters : List ParameterTree) (result : Option ParameterTree)
@@ -109,10 +109,10 @@ constant_known : (d : DeclaredTree) (at : ℕ) (name : Identifier) (initial : In
     → (declare_constant_as d at name initial type initializer).faults ≡ [] → AllKnown (declare_constant_as d at name initial type initializer).value
 constant_known d at name initial declared.Int initializer known none =
     let n = literal_or_fault at (is_sound initializer) (pos 0) (literal_integer initial) in
-    name_known d name (entity.IntegerConstant (next_name d) n.value) known tt (no_right n.faults _ none)
+    name_known d name (entity.IntConstant (next_name d) n.value) known tt (no_right n.faults _ none)
 constant_known d at name initial declared.Bool initializer known none =
     let b = literal_or_fault at (is_sound initializer) false (literal_condition initial) in
-    name_known d name (entity.ConditionConstant (next_name d) b.value) known tt (no_right b.faults _ none)
+    name_known d name (entity.BoolConstant (next_name d) b.value) known tt (no_right b.faults _ none)
 constant_known d at name initial declared.Vertex initializer known none = absurd (not_empty _ _ none)
 constant_known d at name initial declared.VertexSet initializer known none =
     let e = entity.ConstantSet (record { index = length d.sets; name = next_name d }) in

@@ -33,10 +33,10 @@ abbrev pub EntityIsKnown : Vertices → List ℕ → Entity → Type 0
 EntityIsKnown At name (entity.Edges weights) = Unit {0}
 EntityIsKnown At name (entity.Vector index) = Unit {0}
 EntityIsKnown At name (entity.ConstantSet slot) = Unit {0}
-EntityIsKnown At name (entity.IntegerConstant own n) = Unit {0}
-EntityIsKnown At name (entity.ConditionConstant own b) = Unit {0}
-EntityIsKnown At name (entity.IntegerVariable slot) = Unit {0}
-EntityIsKnown At name (entity.ConditionVariable slot) = Unit {0}
+EntityIsKnown At name (entity.IntConstant own n) = Unit {0}
+EntityIsKnown At name (entity.BoolConstant own b) = Unit {0}
+EntityIsKnown At name (entity.IntVariable slot) = Unit {0}
+EntityIsKnown At name (entity.BoolVariable slot) = Unit {0}
 EntityIsKnown At name (entity.SetVariable slot) = Unit {0}
 EntityIsKnown At name (entity.LoopVariable slot) = Unit {0}
 EntityIsKnown At name (entity.Parameter p) = At p name
@@ -105,10 +105,10 @@ labelled_scope c (Some label) = new_label_scope c label (found label.bytes c.lab
 declare_step_known : (At : Vertices) (i : Inside) (c : CheckerTree) (at : ℕ) (name : Identifier) (initializer : InitializerTree) (type : DeclaredType) → IsKnown At i c.scope
     → (declare_step_as c at name initializer type).faults ≡ [] → IsKnown At i (declare_step_as c at name initializer type).value.1.scope
 declare_step_known At i c at name initializer declared.Int known none =
-    let e = entity.IntegerVariable (integer_slot c) in
+    let e = entity.IntVariable (integer_slot c) in
     declared_known At i c name e known tt (no_left (declared_in c name e).faults [] (no_right (initializer_integer at initializer).faults _ none))
 declare_step_known At i c at name initializer declared.Bool known none =
-    let e = entity.ConditionVariable (condition_slot c) in
+    let e = entity.BoolVariable (condition_slot c) in
     declared_known At i c name e known tt (no_left (declared_in c name e).faults [] (no_right (initializer_condition at initializer).faults _ none))
 declare_step_known At i c at name initializer declared.Vertex known none = absurd (not_empty _ _ none)
 declare_step_known At i c at name initializer declared.VertexSet known none = absurd (not_empty _ _ none)
@@ -136,10 +136,10 @@ step_known At i c (source.Apply target ends function) known none = known
 declare_known : (At : Vertices) (i : Inside) (c : CheckerTree) (at : ℕ) (name : Identifier) (initializer : InitializerTree) (type : DeclaredType) → IsKnown At i c.scope
     → (declare_as c at name initializer type).faults ≡ [] → IsKnown At i (declare_as c at name initializer type).value.1.scope
 declare_known At i c at name initializer declared.Int known none =
-    let e = entity.IntegerVariable (integer_slot c) in
+    let e = entity.IntVariable (integer_slot c) in
     declared_known At i c name e known tt (no_left (declared_in c name e).faults [] (no_right (initializer_integer at initializer).faults _ none))
 declare_known At i c at name initializer declared.Bool known none =
-    let e = entity.ConditionVariable (condition_slot c) in
+    let e = entity.BoolVariable (condition_slot c) in
     declared_known At i c name e known tt (no_left (declared_in c name e).faults [] (no_right (initializer_condition at initializer).faults _ none))
 declare_known At i c at name initializer declared.Vertex known none = absurd (not_empty _ _ none)
 declare_known At i c at name initializer declared.VertexSet known none =

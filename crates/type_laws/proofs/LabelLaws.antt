@@ -25,7 +25,7 @@ use Rattle.types.specs.Declaration.{declare_name, function_declared, inside_of, 
 use Rattle.types.specs.Declaration.{with_main_block, takes_weight}
 use Rattle.types.specs.Initial.{InitializerTree, initializer_of}
 use Rattle.type_laws.specs.Labels.{block_labels, inner_labels, labels_of, own_label}
-use Rattle.types.specs.Program.{opening, program_of, set_count}
+use Rattle.types.specs.Program.{no_declarations, program_of, set_count}
 use Rattle.types.specs.Statement.{declare_as}
 use Rattle.types.specs.Step.{declare_step_as, step_after, step_typed, steps_after, steps_typed, with_writes}
 use Rattle.type_laws.proofs.Faultless.{no_left, no_right, not_empty}
@@ -295,9 +295,9 @@ declarations_meet d (source.Function at name parameters result body ∷ others) 
     (declarations_meet e.value others (no_right e.faults rest.faults none))
 
 program_meets : (source : SourceTree) (length : ℕ) → (program_of source length).faults ≡ []
-    → Meets (opening (set_count source.declarations)).checker (declarations_typed (opening (set_count source.declarations)) source.declarations).value.checker (labels_of source.declarations)
+    → Meets (no_declarations (set_count source.declarations)).checker (declarations_typed (no_declarations (set_count source.declarations)) source.declarations).value.checker (labels_of source.declarations)
 program_meets source length none =
-    let start = opening (set_count source.declarations) in
+    let start = no_declarations (set_count source.declarations) in
     declarations_meet start source.declarations (no_left (declarations_typed start source.declarations).faults _ none)
 
 pub labels_are_distinct : (source : SourceTree) (length : ℕ) → (program_of source length).faults ≡ [] → IsDistinct bytes_eq (labels_of source.declarations)

@@ -20,7 +20,7 @@ use Rattle.types.specs.Declaration.{declare_function, declare_name, function_dec
 use Rattle.types.specs.Declaration.{only_edges, opened, parameter, parameters_declared, result_declared, steps_declared, with_main_block}
 use Rattle.types.specs.Initial.{InitializerTree, initializer_of, is_sound}
 use Rattle.types.specs.Literal.{literal_condition, literal_integer}
-use Rattle.types.specs.Program.{main_of, opening, program_of, set_count}
+use Rattle.types.specs.Program.{main_of, no_declarations, program_of, set_count}
 use Rattle.types.specs.Step.{steps_typed, with_writes}
 use Rattle.type_laws.specs.LoopVariables.{KeepsLoops, KeepsLoopVariables}
 use Rattle.type_laws.proofs.Faultless.{no_left, no_right, not_empty}
@@ -42,10 +42,10 @@ constant_fits : (d : DeclaredTree) (at : ℕ) (name : Identifier) (initial : Ini
     → (declare_constant_as d at name initial type initializer).faults ≡ [] → DeclaredFits d → DeclaredFits (declare_constant_as d at name initial type initializer).value
 constant_fits d at name initial declared.Int initializer none fits =
     let n = literal_or_fault at (is_sound initializer) (pos 0) (literal_integer initial) in
-    name_declared d name (entity.IntegerConstant (next_name d) n.value) (no_right n.faults _ none) fits refl tt
+    name_declared d name (entity.IntConstant (next_name d) n.value) (no_right n.faults _ none) fits refl tt
 constant_fits d at name initial declared.Bool initializer none fits =
     let b = literal_or_fault at (is_sound initializer) false (literal_condition initial) in
-    name_declared d name (entity.ConditionConstant (next_name d) b.value) (no_right b.faults _ none) fits refl tt
+    name_declared d name (entity.BoolConstant (next_name d) b.value) (no_right b.faults _ none) fits refl tt
 constant_fits d at name initial declared.Vertex initializer none fits = absurd (not_empty _ _ none)
 constant_fits d at name initial declared.VertexSet initializer none fits =
     let e = entity.ConstantSet (record { index = length d.sets; name = next_name d }) in
@@ -166,7 +166,7 @@ main_keeps length (Some main) keeps = keeps
 
 pub keeps_loop_variables : (source : SourceTree) (length : ℕ) → (program_of source length).faults ≡ [] → KeepsLoopVariables (program_of source length).value
 keeps_loop_variables source length none =
-    let start = opening (set_count source.declarations) in
+    let start = no_declarations (set_count source.declarations) in
     let d = declarations_typed start source.declarations in
     let before : LoopsFit [] 0 start.checker.scope = record { count = refl; below = tt; known = tt } in
     main_keeps length d.value.main (declarations_fit start source.declarations (no_left d.faults _ none) (before, tt)).1

@@ -44,15 +44,15 @@ next_outside (i ∷ is) n x below more =
 
 -- an integer variable that has a name has an index below this, and is no variable of a loop
 abbrev pub EntityIsOutside : List ℕ → ℕ → Entity → Type 0
-EntityIsOutside is n (entity.IntegerVariable slot) = (slot.index < n) × IsOutside is slot.index
+EntityIsOutside is n (entity.IntVariable slot) = (slot.index < n) × IsOutside is slot.index
 EntityIsOutside is n _ = Unit {0}
 
 entity_more : (is : List ℕ) (m n : ℕ) → m ≤ n → (e : Entity) → EntityIsOutside is m e → EntityIsOutside is n e
-entity_more is m n more (entity.IntegerVariable slot) outside = let here : slot.index < m = outside.0 in (omega (arith, here, more), outside.1)
+entity_more is m n more (entity.IntVariable slot) outside = let here : slot.index < m = outside.0 in (omega (arith, here, more), outside.1)
 entity_more is m n more _ outside = tt
 
 entity_in_loop : (is : List ℕ) (n : ℕ) (e : Entity) → EntityIsOutside is n e → EntityIsOutside (n ∷ is) (n + 2) e
-entity_in_loop is n (entity.IntegerVariable slot) outside =
+entity_in_loop is n (entity.IntVariable slot) outside =
     let here : slot.index < n = outside.0 in (omega (arith, here), (λ same. omega (arith, here, same), λ same. omega (arith, here, same), outside.1))
 entity_in_loop is n _ outside = tt
 
@@ -84,11 +84,11 @@ pub other_declared : (is : List ℕ) (n : ℕ) (c : CheckerTree) (name : Identif
     → EntityIsOutside is n e → LoopsFit is n (declared_in c name e).value.scope
 other_declared is n c name e none fits no_integer own = declared_fits is is n n c name e none fits (omega (arith, no_integer)) (λ x outside. outside) fits.below own
 
-integer_declared : (is : List ℕ) (n : ℕ) (c : CheckerTree) (name : Identifier) → (declared_in c name (entity.IntegerVariable (integer_slot c))).faults ≡ [] → LoopsFit is n c.scope
-    → LoopsFit is (n + 1) (declared_in c name (entity.IntegerVariable (integer_slot c))).value.scope
+integer_declared : (is : List ℕ) (n : ℕ) (c : CheckerTree) (name : Identifier) → (declared_in c name (entity.IntVariable (integer_slot c))).faults ≡ [] → LoopsFit is n c.scope
+    → LoopsFit is (n + 1) (declared_in c name (entity.IntVariable (integer_slot c))).value.scope
 integer_declared is n c name none fits =
     let count : c.scope.integers ≡ n = fits.count in
-    declared_fits is is n (n + 1) c name (entity.IntegerVariable (integer_slot c)) none fits refl (entity_more is n (n + 1) (omega arith)) (below_more is n (n + 1) (omega arith) fits.below)
+    declared_fits is is n (n + 1) c name (entity.IntVariable (integer_slot c)) none fits refl (entity_more is n (n + 1) (omega arith)) (below_more is n (n + 1) (omega arith) fits.below)
     (omega (arith, count), next_outside is n c.scope.integers fits.below (omega (arith, count)))
 
 loop_declared : (is : List ℕ) (n : ℕ) (c : CheckerTree) (name : Identifier) → (declared_in c name (entity.LoopVariable (integer_slot c))).faults ≡ [] → LoopsFit is n c.scope
@@ -109,11 +109,11 @@ module _ (is : List ℕ) (n : ℕ) where
   if_plain false x y first other = other
 
   assigned_plain : (at : ℕ) (initializer : InitializerTree) (e : Entity) → EntityIsOutside is n e → Plain is n (assigned at initializer e).value
-  assigned_plain at initializer (entity.IntegerVariable slot) outside = (outside.1, refl)
+  assigned_plain at initializer (entity.IntVariable slot) outside = (outside.1, refl)
   assigned_plain at initializer _ outside = (tt, refl)
 
   reduced_plain : (at : ℕ) (by : Reduction) (x : ValueTree) (e : Entity) → EntityIsOutside is n e → Plain is n (reduced at by x e).value
-  reduced_plain at by x (entity.IntegerVariable slot) outside = (outside.1, refl)
+  reduced_plain at by x (entity.IntVariable slot) outside = (outside.1, refl)
   reduced_plain at by x _ outside = (tt, refl)
 
   added_plain : (at : ℕ) (x : ValueTree) (e : Entity) → Plain is n (added_to_set at x e).value
@@ -184,10 +184,10 @@ plain_fits is n c a fits plain = (plain.0, subst (λ m. LoopsFit is m c.scope) (
 declare_fits : (is : List ℕ) (n : ℕ) (c : CheckerTree) (at : ℕ) (name : Identifier) (initializer : InitializerTree) (type : DeclaredType)
     → (declare_as c at name initializer type).faults ≡ [] → LoopsFit is n c.scope → ActionFits is n (declare_as c at name initializer type).value
 declare_fits is n c at name initializer declared.Int none fits =
-    let e = entity.IntegerVariable (integer_slot c) in
+    let e = entity.IntVariable (integer_slot c) in
     (tt, integer_declared is n c name (no_left (declared_in c name e).faults [] (no_right (initializer_integer at initializer).faults _ none)) fits)
 declare_fits is n c at name initializer declared.Bool none fits =
-    let e = entity.ConditionVariable (condition_slot c) in
+    let e = entity.BoolVariable (condition_slot c) in
     (tt, other_declared is n c name e (no_left (declared_in c name e).faults [] (no_right (initializer_condition at initializer).faults _ none)) fits refl tt)
 declare_fits is n c at name initializer declared.Vertex none fits = absurd (not_empty _ _ none)
 declare_fits is n c at name initializer declared.VertexSet none fits =

@@ -17,7 +17,7 @@ use Rattle.types.specs.Declaration.{declare_name, kind_of, main_bytes, opened, t
 use Rattle.types.specs.Initial.{InitializerTree, initializer_of}
 use Rattle.type_laws.specs.MainFunction.{DeclaresMain, IsMain, functions_named}
 use Rattle.type_laws.specs.NewNames.{DeclarationsDeclareNew, IsNew}
-use Rattle.types.specs.Program.{main_of, opening, program_of, set_count}
+use Rattle.types.specs.Program.{main_of, no_declarations, program_of, set_count}
 use Rattle.type_laws.proofs.EachDeclaration.{IsUserKind, user_kind}
 use Rattle.type_laws.proofs.Faultless.{no_left, no_right, not_empty}
 use Rattle.type_laws.proofs.NewNames.{names_are_new}
@@ -96,7 +96,7 @@ not_before xs (inr before) = absurd before
 
 pub main_is_declared_somewhere : (source : SourceTree) (length : ℕ) → (program_of source length).faults ≡ [] → DeclaresMain source.declarations
 main_is_declared_somewhere source length none =
-    let start = opening (set_count source.declarations) in
+    let start = no_declarations (set_count source.declarations) in
     let d = declarations_typed start source.declarations in
     let there = main_is_met length d.value.main (no_left (main_of length d.value.main).faults [] (no_right d.faults _ none)) in
     not_before source.declarations (main_is_among start source.declarations there)

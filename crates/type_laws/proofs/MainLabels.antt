@@ -22,7 +22,7 @@ use Rattle.types.specs.Checker.{CheckerTree, counted, declared_in, integer_slot,
 use Rattle.types.specs.Declaration.{DeclaredTree, FunctionKindTree, MainKind, EdgeKind, VertexKind, FilterKind, NoKind, declaration_typed, declarations_typed, declare_constant_as, declare_function}
 use Rattle.types.specs.Declaration.{declare_name, kind, opened, with_main_block}
 use Rattle.types.specs.Initial.{ApplyEndTree, InitializerTree, edge_function, apply_end_of, initializer_of, is_edges, names_error, is_error_end, is_wrong, vertex_function, lacks_weights}
-use Rattle.types.specs.Program.{main_of, opening, program_of, set_count}
+use Rattle.types.specs.Program.{main_of, no_declarations, program_of, set_count}
 use Rattle.types.specs.Statement.{add_vertex, added_to_set, applied, apply, assign, assigned, declare_as, edges_applied, entry_reduced, entry_set, has_ends, print, printed, reduce, reduce_entry}
 use Rattle.types.specs.Statement.{reduced, set_applied, set_entry, vertices_applied}
 use Rattle.type_laws.specs.LabelIndices.{LabelsAreInOrder, inner_indices, label_indices, own_index}
@@ -254,7 +254,7 @@ run_ordered length (Some main) order = order
 
 pub labels_in_order : (source : SourceTree) (length : ℕ) → (program_of source length).faults ≡ [] → LabelsAreInOrder (program_of source length).value
 labels_in_order source length none =
-    let start = opening (set_count source.declarations) in
+    let start = no_declarations (set_count source.declarations) in
     let d = declarations_typed start source.declarations in
     let all = run_ordered length d.value.main (declarations_ordered start source.declarations (no_left d.faults _ none) tt) in
     record { first = all.0; ordered = all.1 }

@@ -31,7 +31,7 @@ use Rattle.types.specs.Declaration.{main_bytes, main_declared, next_name, only_e
 use Rattle.types.specs.Declaration.{takes_weight, is_int_type}
 use Rattle.types.specs.Initial.{InitializerTree, initializer_of, is_sound, writes_vector}
 use Rattle.types.specs.Literal.{literal_condition, literal_integer}
-use Rattle.types.specs.Program.{main_of, opening, program_of, set_count}
+use Rattle.types.specs.Program.{main_of, no_declarations, program_of, set_count}
 use Rattle.types.specs.Step.{declare_step_as, step_after, step_typed, steps_after, steps_typed, with_writes}
 use Rattle.type_laws.specs.AskedVectors.{AskForWritten, AsksForWritten}
 use Rattle.type_laws.specs.EachStatement.{HoldsInside, HoldsOfEach, SetNames, names_before, names_after}
@@ -362,12 +362,12 @@ module _ (p : ProgramTree) where
       → AllKnown (declare_constant_as d at name initial type initializer).value → DeclaredFits d → DeclaredFits (declare_constant_as d at name initial type initializer).value
   constant_fits d at name initial declared.Int initializer none within known fits =
       let n = literal_or_fault at (is_sound initializer) (pos 0) (literal_integer initial) in
-      let e = entity.IntegerConstant (next_name d) n.value in
+      let e = entity.IntConstant (next_name d) n.value in
       let left = no_left (declared_in d.checker name e).faults [] (no_right n.faults _ none) in
       as_declared _ (no_set d.sets (length d.edge_functions) d.checker name e left within.names tt refl (checker_of d fits)) known fits.main
   constant_fits d at name initial declared.Bool initializer none within known fits =
       let b = literal_or_fault at (is_sound initializer) false (literal_condition initial) in
-      let e = entity.ConditionConstant (next_name d) b.value in
+      let e = entity.BoolConstant (next_name d) b.value in
       let left = no_left (declared_in d.checker name e).faults [] (no_right b.faults _ none) in
       as_declared _ (no_set d.sets (length d.edge_functions) d.checker name e left within.names tt refl (checker_of d fits)) known fits.main
   constant_fits d at name initial declared.Vertex initializer none within known fits = absurd (not_empty _ _ none)
@@ -611,8 +611,8 @@ module _ (p : ProgramTree) where
       declarations_fit e.value others (no_right e.faults rest.faults none) within
       (declaration_fits d x (no_left e.faults rest.faults none) (declarations_within e.value others within) all)
 
-  opening_fits : (n : ℕ) → n ≡ length p.sets → DeclaredFits (opening n)
-  opening_fits n counted = record {
+  no_declarations_fit : (n : ℕ) → n ≡ length p.sets → DeclaredFits (no_declarations n)
+  no_declarations_fit n counted = record {
     sets = record {
       known = tt;
       named = λ index name is. absurd (none-some name is);
@@ -649,11 +649,11 @@ module _ (P : SetNames → StatementKindTree → Type 0) (Q : SetNames → State
 program_holds : (source : SourceTree) (length : ℕ) → (program_of source length).faults ≡ [] → MainHolds (program_of source length).value (Some (program_of source length).value.main)
 program_holds source length none =
     let p = (program_of source length).value in
-    let start = opening (set_count source.declarations) in
+    let start = no_declarations (set_count source.declarations) in
     let d = declarations_typed start source.declarations in
     let counted = sets_counted start source.declarations in
     let within : IsWithin p d.value = record { names = λ k x is. is; sets = λ k x is. is; functions = λ k x is. is } in
-    main_holds p length d.value.main (declarations_fit p start source.declarations (no_left d.faults _ none) within (opening_fits p (set_count source.declarations) (omega (arith, counted)))).main
+    main_holds p length d.value.main (declarations_fit p start source.declarations (no_left d.faults _ none) within (no_declarations_fit p (set_count source.declarations) (omega (arith, counted)))).main
 
 pub names_sets_apart : (source : SourceTree) (length : ℕ) → (program_of source length).faults ≡ [] → NamesSetsApart (program_of source length).value
 names_sets_apart source length none =

@@ -91,10 +91,10 @@ module _ (p : ProgramTree) where
   EntityStands V (entity.Edges weights) = Unit {0}
   EntityStands V (entity.Vector index) = Unit {0}
   EntityStands V (entity.ConstantSet slot) = V slot.index slot.name
-  EntityStands V (entity.IntegerConstant name n) = Unit {0}
-  EntityStands V (entity.ConditionConstant name b) = Unit {0}
-  EntityStands V (entity.IntegerVariable slot) = Unit {0}
-  EntityStands V (entity.ConditionVariable slot) = Unit {0}
+  EntityStands V (entity.IntConstant name n) = Unit {0}
+  EntityStands V (entity.BoolConstant name b) = Unit {0}
+  EntityStands V (entity.IntVariable slot) = Unit {0}
+  EntityStands V (entity.BoolVariable slot) = Unit {0}
   EntityStands V (entity.SetVariable slot) = V slot.index slot.name × (length p.sets ≤ slot.index)
   EntityStands V (entity.LoopVariable slot) = Unit {0}
   EntityStands V (entity.Parameter at) = Unit {0}
@@ -429,11 +429,11 @@ module _ (p : ProgramTree) where
         → Begins (declare_as c at name initializer type).value.1.names p.names → MainFits functions names c → InitializerStands names initializer
         → ActionFits names (declare_as c at name initializer type).value
     declare_fits names c at name initializer declared.Int none begins fits value =
-        let e = entity.IntegerVariable (integer_slot c) in
+        let e = entity.IntVariable (integer_slot c) in
         let left = no_left (declared_in c name e).faults [] (no_right (initializer_integer at initializer).faults _ none) in
         (((fits.sets.apart, tt), tt), tt, other_declared names c name e left begins tt refl fits)
     declare_fits names c at name initializer declared.Bool none begins fits value =
-        let e = entity.ConditionVariable (condition_slot c) in
+        let e = entity.BoolVariable (condition_slot c) in
         let left = no_left (declared_in c name e).faults [] (no_right (initializer_condition at initializer).faults _ none) in
         (((fits.sets.apart, tt), tt), tt, other_declared names c name e left begins tt refl fits)
     declare_fits names c at name initializer declared.Vertex none begins fits value = absurd (not_empty _ _ none)

@@ -27,7 +27,7 @@ use Rattle.types.specs.Initial.{InitializerTree, initializer_condition, initiali
 use Rattle.types.specs.Literal.{literal_condition, literal_integer}
 use Rattle.type_laws.specs.NewNames.{ActionDeclaresNew, BlockDeclaresNew, DeclarationDeclaresNew, DeclarationsDeclareNew, FunctionDeclaresNew, IsNew, ParametersAreNew, ResultIsNew, edges_declared}
 use Rattle.type_laws.specs.NewNames.{edge_type_count, names_after, names_inside, with_declaration, with_new, with_parameters, with_result_name}
-use Rattle.types.specs.Program.{opening, program_of, set_count}
+use Rattle.types.specs.Program.{no_declarations, program_of, set_count}
 use Rattle.types.specs.Statement.{declare_as}
 use Rattle.types.specs.Step.{declare_step_as, step_after, step_typed, steps_after, steps_typed, with_writes}
 use Rattle.type_laws.proofs.Faultless.{no_left, no_right, not_empty}
@@ -69,10 +69,10 @@ labelled_same c (Some label) = new_label_same c label (found label.bytes c.label
 declare_step_new : (c : CheckerTree) (at : ℕ) (name : Identifier) (initializer : InitializerTree) (type : DeclaredType) → (declare_step_as c at name initializer type).faults ≡ []
     → IsNew (names c) name × (names (declare_step_as c at name initializer type).value.1 ≡ with_new (names c) name)
 declare_step_new c at name initializer declared.Int none =
-    let e = entity.IntegerVariable (integer_slot c) in
+    let e = entity.IntVariable (integer_slot c) in
     declared_new c name e (no_left (declared_in c name e).faults [] (no_right (initializer_integer at initializer).faults _ none))
 declare_step_new c at name initializer declared.Bool none =
-    let e = entity.ConditionVariable (condition_slot c) in
+    let e = entity.BoolVariable (condition_slot c) in
     declared_new c name e (no_left (declared_in c name e).faults [] (no_right (initializer_condition at initializer).faults _ none))
 declare_step_new c at name initializer declared.Vertex none = absurd (not_empty _ _ none)
 declare_step_new c at name initializer declared.VertexSet none = absurd (not_empty _ _ none)
@@ -125,10 +125,10 @@ mutual
 declare_new : (c : CheckerTree) (at : ℕ) (name : Identifier) (initializer : InitializerTree) (type : DeclaredType) → (declare_as c at name initializer type).faults ≡ []
     → IsNew (names c) name × (names (declare_as c at name initializer type).value.1 ≡ with_new (names c) name)
 declare_new c at name initializer declared.Int none =
-    let e = entity.IntegerVariable (integer_slot c) in
+    let e = entity.IntVariable (integer_slot c) in
     declared_new c name e (no_left (declared_in c name e).faults [] (no_right (initializer_integer at initializer).faults _ none))
 declare_new c at name initializer declared.Bool none =
-    let e = entity.ConditionVariable (condition_slot c) in
+    let e = entity.BoolVariable (condition_slot c) in
     declared_new c name e (no_left (declared_in c name e).faults [] (no_right (initializer_condition at initializer).faults _ none))
 declare_new c at name initializer declared.Vertex none = absurd (not_empty _ _ none)
 declare_new c at name initializer declared.VertexSet none =
@@ -228,10 +228,10 @@ constant_new : (d : DeclaredTree) (at : ℕ) (name : Identifier) (initial : Init
     → (declare_constant_as d at name initial type initializer).faults ≡ [] → New d name (declare_constant_as d at name initial type initializer).value
 constant_new d at name initial declared.Int initializer none =
     let n = literal_or_fault at (is_sound initializer) (pos 0) (literal_integer initial) in
-    name_new d name (entity.IntegerConstant (next_name d) n.value) (no_right n.faults _ none)
+    name_new d name (entity.IntConstant (next_name d) n.value) (no_right n.faults _ none)
 constant_new d at name initial declared.Bool initializer none =
     let b = literal_or_fault at (is_sound initializer) false (literal_condition initial) in
-    name_new d name (entity.ConditionConstant (next_name d) b.value) (no_right b.faults _ none)
+    name_new d name (entity.BoolConstant (next_name d) b.value) (no_right b.faults _ none)
 constant_new d at name initial declared.Vertex initializer none = absurd (not_empty _ _ none)
 constant_new d at name initial declared.VertexSet initializer none =
     let e = entity.ConstantSet (record { index = length d.sets; name = next_name d }) in
@@ -324,7 +324,7 @@ declarations_new d (x ∷ others) none =
 
 pub names_are_new : (source : SourceTree) (length : ℕ) → (program_of source length).faults ≡ [] → DeclarationsDeclareNew [] source.declarations
 names_are_new source length none =
-    let start = opening (set_count source.declarations) in
+    let start = no_declarations (set_count source.declarations) in
     declarations_new start source.declarations (no_left (declarations_typed start source.declarations).faults _ none)
 
 -- how many constants of the edges came before
@@ -387,6 +387,6 @@ one_of_edges d (source.Function at name parameters result body ∷ others) none 
 
 pub edges_are_one : (source : SourceTree) (length : ℕ) → (program_of source length).faults ≡ [] → edges_declared source.declarations ≤ 1
 edges_are_one source length none =
-    let start = opening (set_count source.declarations) in
+    let start = no_declarations (set_count source.declarations) in
     let all = one_of_edges start source.declarations (no_left (declarations_typed start source.declarations).faults _ none) in
     omega (arith, all)

@@ -23,7 +23,7 @@ use Rattle.types.specs.Declaration.{DeclaredTree, FunctionKindTree, MainKind, Ed
 use Rattle.types.specs.Declaration.{declare_name, kind, opened, parameter, parameters_declared, result_declared, with_main_block}
 use Rattle.types.specs.Initial.{ApplyEndTree, InitializerTree, edge_function, apply_end_of, initializer_of, is_edges, names_error, is_error_end, is_wrong, vertex_function, lacks_weights}
 use Rattle.type_laws.specs.Numbers.{InOrder, inner_numbers, numbers}
-use Rattle.types.specs.Program.{main_of, opening, program_of, set_count}
+use Rattle.types.specs.Program.{main_of, no_declarations, program_of, set_count}
 use Rattle.types.specs.Statement.{added_to_set, applied, assigned, declare_as, edges_applied, entry_reduced, entry_set, has_ends, printed, reduced, set_applied, vertices_applied}
 
 -- numbers that go on after so many
@@ -244,5 +244,5 @@ run_order length (Some main) order = order
 
 pub program_order : (source : SourceTree) (length : ℕ) → InOrder 1 (numbers (program_of source length).value.main)
 program_order source length =
-    let start = opening (set_count source.declarations) in
+    let start = no_declarations (set_count source.declarations) in
     run_order length (declarations_typed start source.declarations).value.main (declarations_order start source.declarations tt)

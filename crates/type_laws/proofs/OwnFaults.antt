@@ -190,22 +190,22 @@ assigned_some : (fs wanted : List Fault) → fs ≡ wanted → fs ++ [] ≡ want
 assigned_some fs wanted is = append-nil fs ∙ is
 
 pub assigned_own : (at : ℕ) (x : InitializerTree) (e : Entity) → (assigned at x e).faults ≡ fault_if at rule.WrongType (not (assigns_in_main e x))
-assigned_own at x (entity.IntegerVariable slot) = assigned_some (initializer_integer at x).faults _ (integer_given at x)
-assigned_own at x (entity.ConditionVariable slot) = assigned_some (initializer_condition at x).faults _ (condition_given at x)
+assigned_own at x (entity.IntVariable slot) = assigned_some (initializer_integer at x).faults _ (integer_given at x)
+assigned_own at x (entity.BoolVariable slot) = assigned_some (initializer_condition at x).faults _ (condition_given at x)
 assigned_own at x (entity.SetVariable slot) = assigned_some (initializer_members at x).faults _ (members_given at x)
 assigned_own at x _ = refl
 
 pub assigned_step_own : (at : ℕ) (x : InitializerTree) (e : Entity) → (assigned_step at x e).faults ≡ fault_if at rule.WrongType (not (assigns_in_function e x))
-assigned_step_own at x (entity.IntegerVariable slot) = assigned_some (initializer_integer at x).faults _ (integer_given at x)
-assigned_step_own at x (entity.ConditionVariable slot) = assigned_some (initializer_condition at x).faults _ (condition_given at x)
+assigned_step_own at x (entity.IntVariable slot) = assigned_some (initializer_integer at x).faults _ (integer_given at x)
+assigned_step_own at x (entity.BoolVariable slot) = assigned_some (initializer_condition at x).faults _ (condition_given at x)
 assigned_step_own at x _ = refl
 
 pub reduced_own : (at : ℕ) (by : Reduction) (v : ValueTree) (e : Entity) → (reduced at by v e).faults ≡ fault_if at rule.WrongType (not (reduces e v))
-reduced_own at by v (entity.IntegerVariable slot) = assigned_some (integer_wanted at v).faults _ (as_integer_own at v)
+reduced_own at by v (entity.IntVariable slot) = assigned_some (integer_wanted at v).faults _ (as_integer_own at v)
 reduced_own at by v _ = refl
 
 pub reduced_step_own : (at : ℕ) (by : Reduction) (v : ValueTree) (e : Entity) → (reduced_step at by v e).faults ≡ fault_if at rule.WrongType (not (reduces e v))
-reduced_step_own at by v (entity.IntegerVariable slot) = assigned_some (integer_wanted at v).faults _ (as_integer_own at v)
+reduced_step_own at by v (entity.IntVariable slot) = assigned_some (integer_wanted at v).faults _ (as_integer_own at v)
 reduced_step_own at by v _ = refl
 
 pub added_own : (at : ℕ) (v : ValueTree) (e : Entity) → (added_to_set at v e).faults ≡ fault_if at rule.WrongType (not (may_add e v))

@@ -27,7 +27,7 @@ use Rattle.types.specs.Declaration.{declare_function, declare_name, declare_edge
 use Rattle.types.specs.Declaration.{result_entity, has_all}
 use Rattle.types.specs.Initial.{InitializerTree, apply_end_of, initializer_of, is_all, is_error_end, is_loaded, is_sound, names_error}
 use Rattle.types.specs.Literal.{literal_condition, literal_integer}
-use Rattle.types.specs.Program.{main_of, opening, set_count}
+use Rattle.types.specs.Program.{main_of, no_declarations, set_count}
 use Rattle.types.specs.Statement.{declare_as, has_ends}
 use Rattle.types.specs.Step.{declare_step_as, may_reduce, may_set, own_vertex, step_after, step_typed, steps_typed, written_at}
 use Rattle.type_laws.specs.BrokenRules.{begins_constant, declares_in_function, declares_in_main, is_edgeset, is_initial, is_kind}
@@ -345,10 +345,10 @@ constant_as_splits : (d : DeclaredTree) (at : ℕ) (name : Identifier) (initial 
     → Splits (declare_constant_as d at name initial type x).faults (faults (NewName d.checker.scope name) ++ []) (constant_own d at name initial type x)
 constant_as_splits d at name initial declared_type.Int x =
     let n = literal_or_fault at (is_sound x) (pos 0) (literal_integer initial) in
-    name_last d name (entity.IntegerConstant (next_name d) n.value) n.faults _ (literal_own at (is_sound x) (pos 0) (literal_integer initial))
+    name_last d name (entity.IntConstant (next_name d) n.value) n.faults _ (literal_own at (is_sound x) (pos 0) (literal_integer initial))
 constant_as_splits d at name initial declared_type.Bool x =
     let b = literal_or_fault at (is_sound x) false (literal_condition initial) in
-    name_last d name (entity.ConditionConstant (next_name d) b.value) b.faults _ (literal_own at (is_sound x) false (literal_condition initial))
+    name_last d name (entity.BoolConstant (next_name d) b.value) b.faults _ (literal_own at (is_sound x) false (literal_condition initial))
 constant_as_splits d at name initial declared_type.Vertex x = name_last d name entity.Error (record { at = at; rule = rule.WrongType } ∷ []) _ refl
 constant_as_splits d at name initial declared_type.VertexSet x =
     name_last_but_one d name (entity.ConstantSet (record { index = length d.sets; name = next_name d })) (has_all at x).faults _ (wanted_own at (not (is_sound x) || is_all x))
@@ -405,7 +405,7 @@ declarations_split d (x ∷ others) =
 
 source_splits : (s : SourceTree) (length : ℕ) → Splits (faults (Source s length)) (faults_of_parts (parts_of (Source s length))) (broken (Source s length) all_rules)
 source_splits s length =
-    let d = declarations_typed (opening (set_count s.declarations)) s.declarations in
+    let d = declarations_typed (no_declarations (set_count s.declarations)) s.declarations in
     value_splits d.faults _ _ (append-nil (main_of length d.value.main).faults ∙ main_own length d.value.main)
 
 pub splits : (part : Part) → Splits (faults part) (faults_of_parts (parts_of part)) (broken part all_rules)

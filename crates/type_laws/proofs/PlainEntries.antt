@@ -146,10 +146,10 @@ signed_plain prefix.Not ErrorValue plain = tt
 
 named_plain : (e : Entity) → MaybeReadsNone (named_value e)
 named_plain (entity.ConstantSet slot) = tt
-named_plain (entity.IntegerConstant name n) = refl
-named_plain (entity.ConditionConstant name b) = refl
-named_plain (entity.IntegerVariable slot) = refl
-named_plain (entity.ConditionVariable slot) = refl
+named_plain (entity.IntConstant name n) = refl
+named_plain (entity.BoolConstant name b) = refl
+named_plain (entity.IntVariable slot) = refl
+named_plain (entity.BoolVariable slot) = refl
 named_plain (entity.SetVariable slot) = tt
 named_plain (entity.LoopVariable slot) = refl
 named_plain entity.Weight = refl

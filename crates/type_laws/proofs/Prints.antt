@@ -8,7 +8,7 @@ use Rattle.typed_tree.specs.FunctionStatementTree.{FunctionStatementsTree, NoSte
 use Rattle.types.specs.Checker.{CheckerTree, with_label, condition_in}
 use Rattle.types.specs.Declaration.{DeclaredTree, FunctionKindTree, declaration_typed, declarations_typed, kind_fits, kind_of, opened, steps_declared}
 use Rattle.type_laws.specs.Prints.{ActionPrintsNothing, BlockPrintsNothing, PrintsInMainAlone}
-use Rattle.types.specs.Program.{opening, program_of, set_count}
+use Rattle.types.specs.Program.{no_declarations, program_of, set_count}
 use Rattle.types.specs.Step.{step_after, step_typed, steps_after, steps_typed}
 use Rattle.type_laws.proofs.EachDeclaration.{each_declaration, user_declared}
 use Rattle.type_laws.proofs.Faultless.{no_left, no_right, not_empty}
@@ -62,5 +62,5 @@ prints_in_main d (source.Function at name parameters result body) known none =
 
 pub prints_stand_in_main : (source : SourceTree) (length : ℕ) → (program_of source length).faults ≡ [] → AllByRecursion PrintsInMainAlone source.declarations
 prints_stand_in_main source length none =
-    let start = opening (set_count source.declarations) in
+    let start = no_declarations (set_count source.declarations) in
     each_declaration (λ d. Unit {0}) PrintsInMainAlone prints_in_main start source.declarations tt (no_left (declarations_typed start source.declarations).faults _ none)

@@ -28,7 +28,7 @@ use Rattle.types.specs.Declaration.{main_bytes, main_declared, next_name, only_e
 use Rattle.types.specs.Declaration.{with_main_block, takes_weight, is_int_type}
 use Rattle.types.specs.Initial.{InitializerTree, initializer_of, is_sound}
 use Rattle.types.specs.Literal.{literal_condition, literal_integer}
-use Rattle.types.specs.Program.{counting, main_of, opening, program_of, set_count}
+use Rattle.types.specs.Program.{counting, main_of, no_declarations, program_of, set_count}
 use Rattle.types.specs.Step.{steps_typed, with_writes}
 use Rattle.type_laws.proofs.Booleans.{both_true}
 use Rattle.type_laws.proofs.Faultless.{no_left, no_right, not_empty}
@@ -235,7 +235,7 @@ filter_opened p c parameters None none within fits shape = absurd shape.1
 filter_opened p c parameters (Some result) none within fits shape =
     let e = with_writes (in_scope c (entered (inside_of FilterKind) c.scope)) [] in
     let d = parameters_declared false e endpoint.Source parameters in
-    let slot = entity.ConditionVariable (condition_slot d.value) in (
+    let slot = entity.BoolVariable (condition_slot d.value) in (
       length d.value.names,
       declared_name p d.value result.name slot within,
       condition_declared p (in_vertex_function p) d.value result.name (no_right d.faults (declared_in d.value result.name slot).faults none) within
@@ -258,10 +258,10 @@ constant_before : (p : ProgramTree) (d : DeclaredTree) (at : ℕ) (name : Identi
     → WithinProgram p (declare_constant_as d at name initial type initializer).value → WithinProgram p d
 constant_before p d at name initial declared.Int initializer within =
     let n = (literal_or_fault at (is_sound initializer) (pos 0) (literal_integer initial)).value in
-    (declared_before p d.checker name (entity.IntegerConstant (next_name d) n) within.0, within.1, within.2, within.3, within.4, within.5)
+    (declared_before p d.checker name (entity.IntConstant (next_name d) n) within.0, within.1, within.2, within.3, within.4, within.5)
 constant_before p d at name initial declared.Bool initializer within =
     let b = (literal_or_fault at (is_sound initializer) false (literal_condition initial)).value in
-    (declared_before p d.checker name (entity.ConditionConstant (next_name d) b) within.0, within.1, within.2, within.3, within.4, within.5)
+    (declared_before p d.checker name (entity.BoolConstant (next_name d) b) within.0, within.1, within.2, within.3, within.4, within.5)
 constant_before p d at name initial declared.Vertex initializer within =
     (declared_before p d.checker name entity.Error within.0, within.1, within.2, within.3, within.4, within.5)
 constant_before p d at name initial declared.VertexSet initializer within = (
@@ -288,12 +288,12 @@ constant_fits : (p : ProgramTree) (d : DeclaredTree) (at : ℕ) (name : Identifi
     → DeclaredFits p (declare_constant_as d at name initial type initializer).value
 constant_fits p d at name initial declared.Int initializer none within fits =
     let n = literal_or_fault at (is_sound initializer) (pos 0) (literal_integer initial) in
-    let e = entity.IntegerConstant (next_name d) n.value in
+    let e = entity.IntConstant (next_name d) n.value in
     let left = no_left (declared_in d.checker name e).faults [] (no_right n.faults _ none) in
     (placeless p (in_main p) d.checker name e left fits.0 (declared_name p d.checker name e within.0) refl refl refl, fits.1, fits.2, fits.3, fits.4, fits.5, fits.6, fits.7)
 constant_fits p d at name initial declared.Bool initializer none within fits =
     let b = literal_or_fault at (is_sound initializer) false (literal_condition initial) in
-    let e = entity.ConditionConstant (next_name d) b.value in
+    let e = entity.BoolConstant (next_name d) b.value in
     let left = no_left (declared_in d.checker name e).faults [] (no_right b.faults _ none) in
     (placeless p (in_main p) d.checker name e left fits.0 (declared_name p d.checker name e within.0) refl refl refl, fits.1, fits.2, fits.3, fits.4, fits.5, fits.6, fits.7)
 constant_fits p d at name initial declared.Vertex initializer none within fits = absurd (not_empty _ _ none)
@@ -630,17 +630,17 @@ main_resolved : (p : ProgramTree) (length : ℕ) (main : Option BlockTree) → M
 main_resolved p length None resolved = tt
 main_resolved p length (Some main) resolved = resolved
 
-opening_fits : (p : ProgramTree) (n : ℕ) → length p.sets ≡ n → DeclaredFits p (opening n)
-opening_fits p n counted = ((record { integers = refl; conditions = refl; sets = sym counted; known = (λ main. refl, tt) }, refl), tt, tt, tt, tt, tt, tt, tt)
+no_declarations_fit : (p : ProgramTree) (n : ℕ) → length p.sets ≡ n → DeclaredFits p (no_declarations n)
+no_declarations_fit p n counted = ((record { integers = refl; conditions = refl; sets = sym counted; known = (λ main. refl, tt) }, refl), tt, tt, tt, tt, tt, tt, tt)
 
 pub program_resolved : (source : SourceTree) (length : ℕ) → (program_of source length).faults ≡ [] → IsResolved (program_of source length).value
 program_resolved source length none =
     let p = (program_of source length).value in
-    let start = opening (set_count source.declarations) in
+    let start = no_declarations (set_count source.declarations) in
     let d = declarations_typed start source.declarations in
     let counted = sets_counted start source.declarations in
     let within : WithinProgram p d.value = ((omega arith, omega arith), omega arith, omega arith, omega arith, omega arith, λ k x is. is) in
-    let all = declarations_fit p start source.declarations (no_left d.faults _ none) within (opening_fits p (set_count source.declarations) (omega (arith, counted))) in
+    let all = declarations_fit p start source.declarations (no_left d.faults _ none) within (no_declarations_fit p (set_count source.declarations) (omega (arith, counted))) in
     record {
       edges = all.1;
       vectors = all.2;

@@ -44,10 +44,10 @@ entity_grows : (p : ProgramTree) (v w : VisibleTree) → Grows v w → (e : Enti
 entity_grows p v w more (entity.Edges weights) is = is
 entity_grows p v w more (entity.Vector index) is = is
 entity_grows p v w more (entity.ConstantSet slot) is = (more.sets slot.index slot.name is.0, is.1)
-entity_grows p v w more (entity.IntegerConstant name n) is = is
-entity_grows p v w more (entity.ConditionConstant name b) is = is
-entity_grows p v w more (entity.IntegerVariable slot) is = (more.integers slot.index (Some slot.name) is.0, is.1)
-entity_grows p v w more (entity.ConditionVariable slot) is = (more.conditions slot.index slot.name is.0, is.1)
+entity_grows p v w more (entity.IntConstant name n) is = is
+entity_grows p v w more (entity.BoolConstant name b) is = is
+entity_grows p v w more (entity.IntVariable slot) is = (more.integers slot.index (Some slot.name) is.0, is.1)
+entity_grows p v w more (entity.BoolVariable slot) is = (more.conditions slot.index slot.name is.0, is.1)
 entity_grows p v w more (entity.SetVariable slot) is = (more.sets slot.index slot.name is.0, is.1)
 entity_grows p v w more (entity.LoopVariable slot) is = (more.integers slot.index (Some slot.name) is.0, is.1)
 entity_grows p v w more (entity.Parameter at) is = vertex_grows v w at more.vertices is

@@ -71,8 +71,8 @@ loop_declared p v c name none within fits =
 -- what was met before a statement was met before its end
 declare_before : (p : ProgramTree) (c : CheckerTree) (at : ℕ) (name : Identifier) (initializer : InitializerTree) (type : DeclaredType) → Within p (declare_as c at name initializer type).value.1
     → Within p c
-declare_before p c at name initializer declared.Int within = declared_before p c name (entity.IntegerVariable (integer_slot c)) within
-declare_before p c at name initializer declared.Bool within = declared_before p c name (entity.ConditionVariable (condition_slot c)) within
+declare_before p c at name initializer declared.Int within = declared_before p c name (entity.IntVariable (integer_slot c)) within
+declare_before p c at name initializer declared.Bool within = declared_before p c name (entity.BoolVariable (condition_slot c)) within
 declare_before p c at name initializer declared.Vertex within = declared_before p c name entity.Error within
 declare_before p c at name initializer declared.VertexSet within = declared_before p c name (entity.SetVariable (set_slot c)) within
 declare_before p c at name initializer declared.Vector within = declared_before p c name entity.Error within
@@ -133,14 +133,14 @@ if_plain p v false x y first other = other
 
 assigned_plain : (p : ProgramTree) (v : VisibleTree) (at : ℕ) (initializer : InitializerTree) (e : Entity) → InitializerIsResolved p v initializer → EntityIsResolved p v e
     → PlainAction p v (assigned at initializer e).value
-assigned_plain p v at initializer (entity.IntegerVariable slot) value is = ((is, initializer_integer_resolved p v at initializer value), refl)
-assigned_plain p v at initializer (entity.ConditionVariable slot) value is = ((is, initializer_condition_resolved p v at initializer value), refl)
+assigned_plain p v at initializer (entity.IntVariable slot) value is = ((is, initializer_integer_resolved p v at initializer value), refl)
+assigned_plain p v at initializer (entity.BoolVariable slot) value is = ((is, initializer_condition_resolved p v at initializer value), refl)
 assigned_plain p v at initializer (entity.SetVariable slot) value is = ((is, initializer_members_resolved p v at initializer value), refl)
 assigned_plain p v at initializer _ value is = (tt, refl)
 
 reduced_plain : (p : ProgramTree) (v : VisibleTree) (at : ℕ) (by : Reduction) (x : ValueTree) (e : Entity) → ValueIsResolved p v x → EntityIsResolved p v e
     → PlainAction p v (reduced at by x e).value
-reduced_plain p v at by x (entity.IntegerVariable slot) value is = ((is, as_integer_resolved p v at x value), refl)
+reduced_plain p v at by x (entity.IntVariable slot) value is = ((is, as_integer_resolved p v at x value), refl)
 reduced_plain p v at by x _ value is = (tt, refl)
 
 added_plain : (p : ProgramTree) (v : VisibleTree) (at : ℕ) (x : ValueTree) (e : Entity) → ValueIsResolved p v x → EntityIsResolved p v e
@@ -207,11 +207,11 @@ declare_fits : (p : ProgramTree) (v : VisibleTree) (c : CheckerTree) (at : ℕ) 
     → (declare_as c at name initializer type).faults ≡ [] → Within p (declare_as c at name initializer type).value.1 → CheckerFits p v c → InitializerIsResolved p v initializer
     → ActionFits p v (declare_as c at name initializer type).value
 declare_fits p v c at name initializer declared.Int none within fits value =
-    let e = entity.IntegerVariable (integer_slot c) in
+    let e = entity.IntVariable (integer_slot c) in
     let left = no_left (declared_in c name e).faults [] (no_right (initializer_integer at initializer).faults _ none) in
     ((declared_name p c name e within, initializer_integer_resolved p v at initializer value), integer_declared p v c name left within fits)
 declare_fits p v c at name initializer declared.Bool none within fits value =
-    let e = entity.ConditionVariable (condition_slot c) in
+    let e = entity.BoolVariable (condition_slot c) in
     let left = no_left (declared_in c name e).faults [] (no_right (initializer_condition at initializer).faults _ none) in
     ((declared_name p c name e within, initializer_condition_resolved p v at initializer value), condition_declared p v c name left within fits)
 declare_fits p v c at name initializer declared.Vertex none within fits value = absurd (not_empty _ _ none)

@@ -40,20 +40,20 @@ condition_grows name v = record {
   vertices = omega arith;
 }
 
-pub integer_declared : (p : ProgramTree) (v : VisibleTree) (c : CheckerTree) (name : Identifier) → (declared_in c name (entity.IntegerVariable (integer_slot c))).faults ≡ []
-    → Within p (declared_in c name (entity.IntegerVariable (integer_slot c))).value → CheckerFits p v c
-    → CheckerFits p (with_integer (length c.names) v) (declared_in c name (entity.IntegerVariable (integer_slot c))).value
+pub integer_declared : (p : ProgramTree) (v : VisibleTree) (c : CheckerTree) (name : Identifier) → (declared_in c name (entity.IntVariable (integer_slot c))).faults ≡ []
+    → Within p (declared_in c name (entity.IntVariable (integer_slot c))).value → CheckerFits p v c
+    → CheckerFits p (with_integer (length c.names) v) (declared_in c name (entity.IntVariable (integer_slot c))).value
 integer_declared p v c name none within fits =
-    let e = entity.IntegerVariable (integer_slot c) in
+    let e = entity.IntVariable (integer_slot c) in
     let index = ap (λ k. slice_get (v.integers ++ Some (length c.names) ∷ []) k) fits.0.integers ∙ get_last v.integers (Some (length c.names)) [] in
     declared_fits p v (with_integer (length c.names) v) c name e none fits (integer_grows (length c.names) v) refl (index, declared_name p c name e within)
     (length-append v.integers (Some (length c.names) ∷ [])) (omega arith) (omega arith)
 
-pub condition_declared : (p : ProgramTree) (v : VisibleTree) (c : CheckerTree) (name : Identifier) → (declared_in c name (entity.ConditionVariable (condition_slot c))).faults ≡ []
-    → Within p (declared_in c name (entity.ConditionVariable (condition_slot c))).value → CheckerFits p v c
-    → CheckerFits p (with_condition (length c.names) v) (declared_in c name (entity.ConditionVariable (condition_slot c))).value
+pub condition_declared : (p : ProgramTree) (v : VisibleTree) (c : CheckerTree) (name : Identifier) → (declared_in c name (entity.BoolVariable (condition_slot c))).faults ≡ []
+    → Within p (declared_in c name (entity.BoolVariable (condition_slot c))).value → CheckerFits p v c
+    → CheckerFits p (with_condition (length c.names) v) (declared_in c name (entity.BoolVariable (condition_slot c))).value
 condition_declared p v c name none within fits =
-    let e = entity.ConditionVariable (condition_slot c) in
+    let e = entity.BoolVariable (condition_slot c) in
     let index = ap (λ k. slice_get (v.conditions ++ length c.names ∷ []) k) fits.0.conditions ∙ get_last v.conditions (length c.names) [] in
     declared_fits p v (with_condition (length c.names) v) c name e none fits (condition_grows (length c.names) v) refl (index, declared_name p c name e within)
     (omega arith) (length-append v.conditions (length c.names ∷ [])) (omega arith)
@@ -61,8 +61,8 @@ condition_declared p v c name none within fits =
 -- what was met before a statement was met before its end
 declare_before : (p : ProgramTree) (c : CheckerTree) (at : ℕ) (name : Identifier) (initializer : InitializerTree) (type : DeclaredType) → Within p (declare_step_as c at name initializer type).value.1
     → Within p c
-declare_before p c at name initializer declared.Int within = declared_before p c name (entity.IntegerVariable (integer_slot c)) within
-declare_before p c at name initializer declared.Bool within = declared_before p c name (entity.ConditionVariable (condition_slot c)) within
+declare_before p c at name initializer declared.Int within = declared_before p c name (entity.IntVariable (integer_slot c)) within
+declare_before p c at name initializer declared.Bool within = declared_before p c name (entity.BoolVariable (condition_slot c)) within
 declare_before p c at name initializer declared.Vertex within = declared_before p c name entity.Error within
 declare_before p c at name initializer declared.VertexSet within = declared_before p c name entity.Error within
 declare_before p c at name initializer declared.Vector within = declared_before p c name entity.Error within
@@ -115,13 +115,13 @@ PlainStep p v step = StepIsResolved p v step × (behind_step step v ≡ v)
 
 assigned_plain : (p : ProgramTree) (v : VisibleTree) (at : ℕ) (initializer : InitializerTree) (e : Entity) → InitializerIsResolved p v initializer → EntityIsResolved p v e
     → PlainStep p v (assigned_step at initializer e).value
-assigned_plain p v at initializer (entity.IntegerVariable slot) value is = ((is, initializer_integer_resolved p v at initializer value), refl)
-assigned_plain p v at initializer (entity.ConditionVariable slot) value is = ((is, initializer_condition_resolved p v at initializer value), refl)
+assigned_plain p v at initializer (entity.IntVariable slot) value is = ((is, initializer_integer_resolved p v at initializer value), refl)
+assigned_plain p v at initializer (entity.BoolVariable slot) value is = ((is, initializer_condition_resolved p v at initializer value), refl)
 assigned_plain p v at initializer _ value is = ((tt, tt), refl)
 
 reduced_plain : (p : ProgramTree) (v : VisibleTree) (at : ℕ) (by : Reduction) (x : ValueTree) (e : Entity) → ValueIsResolved p v x → EntityIsResolved p v e
     → PlainStep p v (reduced_step at by x e).value
-reduced_plain p v at by x (entity.IntegerVariable slot) value is = ((is, as_integer_resolved p v at x value), refl)
+reduced_plain p v at by x (entity.IntVariable slot) value is = ((is, as_integer_resolved p v at x value), refl)
 reduced_plain p v at by x _ value is = ((tt, tt), refl)
 
 set_plain : (p : ProgramTree) (v : VisibleTree) (may own : Bool) (vector : Option ℕ) (e : IntExpressionTree) → MaybeVariable (IsVectorIndex p) vector → IntegerIsResolved p v e
@@ -152,11 +152,11 @@ declare_fits : (p : ProgramTree) (v : VisibleTree) (c : CheckerTree) (at : ℕ) 
     → (declare_step_as c at name initializer type).faults ≡ [] → Within p (declare_step_as c at name initializer type).value.1 → CheckerFits p v c → InitializerIsResolved p v initializer
     → StepFits p v (declare_step_as c at name initializer type).value
 declare_fits p v c at name initializer declared.Int none within fits value =
-    let e = entity.IntegerVariable (integer_slot c) in
+    let e = entity.IntVariable (integer_slot c) in
     let left = no_left (declared_in c name e).faults [] (no_right (initializer_integer at initializer).faults _ none) in
     ((declared_name p c name e within, initializer_integer_resolved p v at initializer value), integer_declared p v c name left within fits)
 declare_fits p v c at name initializer declared.Bool none within fits value =
-    let e = entity.ConditionVariable (condition_slot c) in
+    let e = entity.BoolVariable (condition_slot c) in
     let left = no_left (declared_in c name e).faults [] (no_right (initializer_condition at initializer).faults _ none) in
     ((declared_name p c name e within, initializer_condition_resolved p v at initializer value), condition_declared p v c name left within fits)
 declare_fits p v c at name initializer declared.Vertex none within fits value = absurd (not_empty _ _ none)

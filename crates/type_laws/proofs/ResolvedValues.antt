@@ -23,7 +23,7 @@ use Rattle.typed_tree.specs.declared.statement.ApplyEnds.{ApplyEnds}
 use Rattle.typed_tree.specs.declared.statement.SetValue.TheVariants as set
 use Rattle.typed_tree.specs.IntExpressionTree.{IntExpressionTree}
 use Rattle.typed_tree.specs.ProgramTree.{ProgramTree}
-use Rattle.typed_tree.specs.Resolved.{VisibleTree, ConditionIsResolved, EndIsResolved, EndsAreResolved, IntegerIsResolved, IsCondition, IsEdgeFunction, IsFilter, IsIntegerVariable, IsNameIndex}
+use Rattle.typed_tree.specs.Resolved.{VisibleTree, ConditionIsResolved, EndIsResolved, EndsAreResolved, IntegerIsResolved, IsCondition, IsEdgeFunction, IsFilter, IsIntVariable, IsNameIndex}
 use Rattle.typed_tree.specs.Resolved.{IsSetVariable, IsVectorIndex, IsVertex, IsVertexFunction, SetIsResolved}
 use Rattle.expression_types.specs.declared.fault.TypeRule.{TypeRule}
 use Rattle.expression_types.specs.declared.fault.TypeRule.TheVariants as rule
@@ -49,12 +49,12 @@ abbrev pub EntityIsResolved : ProgramTree → VisibleTree → Entity → Type 0
 EntityIsResolved p v (entity.Edges weights) = Unit {0}
 EntityIsResolved p v (entity.Vector index) = IsVectorIndex p index
 EntityIsResolved p v (entity.ConstantSet slot) = IsSetVariable p v slot
-EntityIsResolved p v (entity.IntegerConstant name n) = IsNameIndex p name
-EntityIsResolved p v (entity.ConditionConstant name b) = IsNameIndex p name
-EntityIsResolved p v (entity.IntegerVariable slot) = IsIntegerVariable p v slot
-EntityIsResolved p v (entity.ConditionVariable slot) = IsCondition p v slot
+EntityIsResolved p v (entity.IntConstant name n) = IsNameIndex p name
+EntityIsResolved p v (entity.BoolConstant name b) = IsNameIndex p name
+EntityIsResolved p v (entity.IntVariable slot) = IsIntVariable p v slot
+EntityIsResolved p v (entity.BoolVariable slot) = IsCondition p v slot
 EntityIsResolved p v (entity.SetVariable slot) = IsSetVariable p v slot
-EntityIsResolved p v (entity.LoopVariable slot) = IsIntegerVariable p v slot
+EntityIsResolved p v (entity.LoopVariable slot) = IsIntVariable p v slot
 EntityIsResolved p v (entity.Parameter at) = IsVertex v at
 EntityIsResolved p v entity.Weight = IsVertex v endpoint.Destination
 EntityIsResolved p v (entity.EdgeFunction index weighted) = IsEdgeFunction p index
@@ -116,10 +116,10 @@ given_resolved p v at rule (Some x) is = is
 
 named_resolved : (p : ProgramTree) (v : VisibleTree) (e : Entity) → EntityIsResolved p v e → MaybeValue p v (named_value e)
 named_resolved p v (entity.ConstantSet slot) is = is
-named_resolved p v (entity.IntegerConstant name n) is = is
-named_resolved p v (entity.ConditionConstant name b) is = is
-named_resolved p v (entity.IntegerVariable slot) is = is
-named_resolved p v (entity.ConditionVariable slot) is = is
+named_resolved p v (entity.IntConstant name n) is = is
+named_resolved p v (entity.BoolConstant name b) is = is
+named_resolved p v (entity.IntVariable slot) is = is
+named_resolved p v (entity.BoolVariable slot) is = is
 named_resolved p v (entity.SetVariable slot) is = is
 named_resolved p v (entity.LoopVariable slot) is = is
 named_resolved p v (entity.Parameter at) is = is

@@ -27,7 +27,7 @@ use Rattle.types.specs.Declaration.{DeclaredTree, FunctionKindTree, MainKind, Ed
 use Rattle.types.specs.Declaration.{main_declared, opened, steps_declared}
 use Rattle.types.specs.Initial.{apply_end_of, initializer_of}
 use Rattle.type_laws.specs.NewNames.{names_after, names_inside}
-use Rattle.types.specs.Program.{opening, program_of, set_count}
+use Rattle.types.specs.Program.{no_declarations, program_of, set_count}
 use Rattle.types.specs.Statement.{add_vertex, apply, assign, print, reduce, reduce_entry, set_entry}
 use Rattle.types.specs.Step.{assign_step, may_reduce, may_set, own_vertex, reduce_step, set_entry_step, step_after, step_typed, steps_after, steps_typed, written_at}
 use Rattle.type_laws.specs.UsedNames.{ActionUsesVisible, BlockUsesVisible, ComparisonUsesVisible, ConjunctionUsesVisible, DeclarationUsesVisible, DeclarationsUseVisible, EndIsVisible}
@@ -438,5 +438,5 @@ declarations_visible d (x ∷ others) none =
 
 pub names_are_visible : (source : SourceTree) (length : ℕ) → (program_of source length).faults ≡ [] → DeclarationsUseVisible [] source.declarations
 names_are_visible source length none =
-    let start = opening (set_count source.declarations) in
+    let start = no_declarations (set_count source.declarations) in
     declarations_visible start source.declarations (no_left (declarations_typed start source.declarations).faults _ none)

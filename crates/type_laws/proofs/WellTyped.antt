@@ -28,7 +28,7 @@ use Rattle.types.specs.Initial.{ApplyEndTree, InitializerTree, Members, Loaded, 
 use Rattle.types.specs.Initial.{filtered_by, initializer_of, is_all, is_degrees, is_edges, is_loaded, is_sound, names_error, is_error_end, is_wrong, loaded, initial_modified, modified_by, new_set}
 use Rattle.types.specs.Initial.{of_edges, vector_of, writes_vector, lacks_weights}
 use Rattle.types.specs.Literal.{literal_condition, literal_integer}
-use Rattle.types.specs.Program.{opening, program_of, set_count}
+use Rattle.types.specs.Program.{no_declarations, program_of, set_count}
 use Rattle.types.specs.Step.{declare_step_as, may_reduce, may_set, set_entry_step, step_after, step_typed, steps_after, steps_typed}
 use Rattle.type_laws.specs.WellTyped.{ActionFits, BlockFits, ConstantFits, DeclarationFits, FunctionFits, IsAllVertices, IsLoaded, IsNumberOrTruth, IsOutDegrees}
 use Rattle.type_laws.proofs.Booleans.{both_true, false_is_not_true, neither_true}
@@ -54,8 +54,8 @@ variable_fits c at name initializer declared.WeightedEdgeSet none = absurd (not_
 -- after a statement the checker is in the same function
 variable_inside : (c : CheckerTree) (at : ℕ) (name : Identifier) (initializer : InitializerTree) (type : DeclaredType)
     → (declare_step_as c at name initializer type).value.1.scope.inside ≡ c.scope.inside
-variable_inside c at name initializer declared.Int = (declared_goes c name (entity.IntegerVariable (integer_slot c))).0
-variable_inside c at name initializer declared.Bool = (declared_goes c name (entity.ConditionVariable (condition_slot c))).0
+variable_inside c at name initializer declared.Int = (declared_goes c name (entity.IntVariable (integer_slot c))).0
+variable_inside c at name initializer declared.Bool = (declared_goes c name (entity.BoolVariable (condition_slot c))).0
 variable_inside c at name initializer declared.Vertex = (declared_goes c name entity.Error).0
 variable_inside c at name initializer declared.VertexSet = (declared_goes c name entity.Error).0
 variable_inside c at name initializer declared.Vector = (declared_goes c name entity.Error).0
@@ -489,5 +489,5 @@ declaration_fits d (source.Function at name parameters result body) known none =
 
 pub declarations_fit : (source : SourceTree) (length : ℕ) → (program_of source length).faults ≡ [] → AllByRecursion DeclarationFits source.declarations
 declarations_fit source length none =
-    let start = opening (set_count source.declarations) in
+    let start = no_declarations (set_count source.declarations) in
     each_declaration AllKnown DeclarationFits declaration_fits start source.declarations (refl, tt) (no_left (declarations_typed start source.declarations).faults _ none)

@@ -26,7 +26,7 @@ use Rattle.types.specs.Initial.{ApplyEndTree, InitializerTree, Typed, Members, L
 use Rattle.types.specs.Initial.{initializer_of, is_all, is_degrees, is_edges, is_loaded, is_sound, is_wrong, lacks_weights, names_error, vector_of}
 use Rattle.types.specs.Initial.{vertex_function, writes_vector}
 use Rattle.types.specs.Literal.{literal_condition, literal_integer}
-use Rattle.types.specs.Program.{opening, set_count}
+use Rattle.types.specs.Program.{no_declarations, set_count}
 use Rattle.types.specs.Statement.{has_ends}
 use Rattle.types.specs.Step.{own_vertex, same_endpoint, same_reduction}
 use Rattle.type_laws.specs.ExpressionParts.{any_faulty, parts}
@@ -34,7 +34,7 @@ use Rattle.type_laws.specs.ExpressionRules.{breaks_indexes, breaks_types, breaks
 use Rattle.type_laws.specs.SourceParts.{Part, Source, Declaration, MainStatement, FunctionStatement, Label, NewName, Initial, IntWanted, BoolWanted}
 use Rattle.type_laws.specs.SourceParts.{VectorWanted, MainIndex, FunctionIndex, InExpression, initial_forms, parts_of}
 
--- a value may stand where an int, a bool or a set is wanted; of a faulty one no type is known
+-- a value may be where an int, a bool or a set is wanted; of a faulty one no type is known
 abbrev pub may_be_int : ValueTree → Bool
 may_be_int v = is_error v || is_int v
 
@@ -84,21 +84,21 @@ declares_in_function _ x = false
 
 -- variables are assigned, and a filter's result
 abbrev pub assigns_in_main : Entity → InitializerTree → Bool
-assigns_in_main (entity.IntegerVariable slot) x = gives_int x
-assigns_in_main (entity.ConditionVariable slot) x = gives_bool x
+assigns_in_main (entity.IntVariable slot) x = gives_int x
+assigns_in_main (entity.BoolVariable slot) x = gives_bool x
 assigns_in_main (entity.SetVariable slot) x = gives_set x
 assigns_in_main entity.Error x = true
 assigns_in_main _ x = false
 
 abbrev pub assigns_in_function : Entity → InitializerTree → Bool
-assigns_in_function (entity.IntegerVariable slot) x = gives_int x
-assigns_in_function (entity.ConditionVariable slot) x = gives_bool x
+assigns_in_function (entity.IntVariable slot) x = gives_int x
+assigns_in_function (entity.BoolVariable slot) x = gives_bool x
 assigns_in_function entity.Error x = true
 assigns_in_function _ x = false
 
 -- int variables are reduced, and set variables get vertices
 abbrev pub reduces : Entity → ValueTree → Bool
-reduces (entity.IntegerVariable slot) v = may_be_int v
+reduces (entity.IntVariable slot) v = may_be_int v
 reduces entity.Error v = true
 reduces _ v = false
 
@@ -264,7 +264,7 @@ prints_outside_main _ = false
 
 -- 228: a function `main` without parameters and result is there
 abbrev pub lacks_main : Part → Bool
-lacks_main (Source s length) = not (is_some (declarations_typed (opening (set_count s.declarations)) s.declarations).value.main)
+lacks_main (Source s length) = not (is_some (declarations_typed (no_declarations (set_count s.declarations)) s.declarations).value.main)
 lacks_main _ = false
 
 -- 229: no label is twice in a text

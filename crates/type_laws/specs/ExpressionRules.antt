@@ -109,7 +109,7 @@ breaks_types scope at (Primary (tree.Parentheses inside)) = false
 breaks_types scope at (Index index) = false
 breaks_types scope at (Name name) = false
 
--- 226: an entry of a vector is read at an index that may stand there
+-- 226: an entry of a vector is read at an index that may be there
 abbrev pub breaks_indexes : ScopeTree → ℕ → Form → Bool
 breaks_indexes scope at (Primary (tree.Entry vector index)) =
     is_some (named_vector (used_name scope vector).value) && not (may_be_index scope.inside (form_value scope at (Index index)))

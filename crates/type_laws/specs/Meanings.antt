@@ -58,7 +58,7 @@ IsNew k name = found name.bytes k.names ≡ None
 abbrev pub with_meaning : Known → Identifier → Meaning → Known
 with_meaning k name m = record k { names = k.names ++ (name.bytes, m) ∷ [] }
 
--- a label that does not stand already
+-- a label that is not already
 abbrev pub LabelIsNew : Known → Option Identifier → Type 0
 LabelIsNew k None = Unit {0}
 LabelIsNew k (Some label) = Contains k.labels label.bytes → ⊥

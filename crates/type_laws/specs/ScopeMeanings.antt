@@ -10,10 +10,10 @@ abbrev pub meaning_of : Entity → Meaning
 meaning_of (entity.Edges weights) = meaning.Edges weights
 meaning_of (entity.Vector index) = meaning.Vector index
 meaning_of (entity.ConstantSet slot) = meaning.ConstantSet
-meaning_of (entity.IntegerConstant name n) = meaning.NumberConstant
-meaning_of (entity.ConditionConstant name b) = meaning.TruthConstant
-meaning_of (entity.IntegerVariable slot) = meaning.NumberVariable
-meaning_of (entity.ConditionVariable slot) = meaning.TruthVariable
+meaning_of (entity.IntConstant name n) = meaning.NumberConstant
+meaning_of (entity.BoolConstant name b) = meaning.TruthConstant
+meaning_of (entity.IntVariable slot) = meaning.NumberVariable
+meaning_of (entity.BoolVariable slot) = meaning.TruthVariable
 meaning_of (entity.SetVariable slot) = meaning.SetVariable
 meaning_of (entity.LoopVariable slot) = meaning.LoopName
 meaning_of (entity.Parameter p) = meaning.Parameter p

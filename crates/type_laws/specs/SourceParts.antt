@@ -13,7 +13,7 @@ use Rattle.expression_types.specs.ScopeTree.{ScopeTree, entered}
 use Rattle.types.specs.Block.{action_typed, closed, statements_typed}
 use Rattle.types.specs.Checker.{CheckerTree, counted, declared_in, integer_slot, with_label, restarted, in_scope}
 use Rattle.types.specs.Declaration.{DeclaredTree, FunctionKindTree, MainKind, declaration_typed, inside_of, kind, opened, parameter, takes_weight}
-use Rattle.types.specs.Program.{opening, set_count}
+use Rattle.types.specs.Program.{no_declarations, set_count}
 use Rattle.types.specs.Step.{step_typed, steps_after, steps_typed, with_writes}
 use Rattle.type_laws.specs.ExpressionParts as form
 use Rattle.type_laws.specs.ExpressionParts.{Form}
@@ -154,7 +154,7 @@ declarations_parts d (x ∷ others) = Declaration d x ∷ Declarations (declarat
 
 -- the parts of a part
 abbrev pub parts_of : Part → List Part
-parts_of (Source s length) = Declarations (opening (set_count s.declarations)) s.declarations ∷ []
+parts_of (Source s length) = Declarations (no_declarations (set_count s.declarations)) s.declarations ∷ []
 parts_of (Declarations d xs) = declarations_parts d xs
 parts_of (Declaration d x) = declaration_parts d x
 parts_of (Parameters weighted k c p vs result) = parameter_parts weighted k c p vs result

@@ -6,8 +6,8 @@ use Rattle.typed_tree.specs.declared.statement.VertexFilter.TheVariants as filte
 use Rattle.typed_tree.specs.declared.statement.ApplyEnds.{ApplyEnds}
 use Rattle.typed_tree.specs.declared.statement.SetValue.{SetValue}
 use Rattle.typed_tree.specs.declared.statement.SetValue.TheVariants as set
-use Rattle.typed_tree.specs.BlockTree.{StatementKindTree, DeclareInteger, DeclareCondition, SetInteger, SetCondition, ReduceInteger, SetEntry, ReduceEntry}
-use Rattle.typed_tree.specs.BlockTree.{DeclareSet, AssignSet, AddVertex, PrintInteger, PrintCondition, ApplyVertex, ApplyEdges, If, IfElse, While, For}
+use Rattle.typed_tree.specs.BlockTree.{StatementKindTree, DeclareInt, DeclareBool, SetInt, SetBool, ReduceInt, SetEntry, ReduceEntry}
+use Rattle.typed_tree.specs.BlockTree.{DeclareSet, AssignSet, AddVertex, PrintInt, PrintBool, ApplyVertex, ApplyEdges, If, IfElse, While, For}
 use Rattle.typed_tree.specs.Independence.{are_same}
 use Rattle.typed_tree.specs.ProgramTree.{ProgramTree}
 use Rattle.type_laws.specs.EachStatement.{SetNames, HoldsOfEach, names_before}
@@ -43,18 +43,18 @@ ValueIsVisible names (set.Modified ends function vector) = EndsAreVisible names 
 -- Each set is visible that a statement changes, filters, applies a vertex function to or has as an end of an edge apply; and one that it
 -- changes is a variable.
 abbrev pub SetsAreVisible : ProgramTree → SetNames → StatementKindTree → Type 0
-SetsAreVisible p names (DeclareInteger name e) = Unit {0}
-SetsAreVisible p names (DeclareCondition name c) = Unit {0}
-SetsAreVisible p names (SetInteger slot e) = Unit {0}
-SetsAreVisible p names (SetCondition slot c) = Unit {0}
-SetsAreVisible p names (ReduceInteger slot by e) = Unit {0}
+SetsAreVisible p names (DeclareInt name e) = Unit {0}
+SetsAreVisible p names (DeclareBool name c) = Unit {0}
+SetsAreVisible p names (SetInt slot e) = Unit {0}
+SetsAreVisible p names (SetBool slot c) = Unit {0}
+SetsAreVisible p names (ReduceInt slot by e) = Unit {0}
 SetsAreVisible p names (SetEntry vector index e) = Unit {0}
 SetsAreVisible p names (ReduceEntry vector index by e) = Unit {0}
 SetsAreVisible p names (DeclareSet name value) = ValueIsVisible names value
 SetsAreVisible p names (AssignSet slot value) = (IsVisible names slot × IsVariable p slot) × ValueIsVisible names value
 SetsAreVisible p names (AddVertex slot e) = IsVisible names slot × IsVariable p slot
-SetsAreVisible p names (PrintInteger e) = Unit {0}
-SetsAreVisible p names (PrintCondition c) = Unit {0}
+SetsAreVisible p names (PrintInt e) = Unit {0}
+SetsAreVisible p names (PrintBool c) = Unit {0}
 SetsAreVisible p names (ApplyVertex slot function) = IsVisible names slot
 SetsAreVisible p names (ApplyEdges ends function) = EndsAreVisible names ends
 SetsAreVisible p names (If c body) = Unit {0}

@@ -70,7 +70,7 @@ pub fn checked_sources_have_distinct_labels()
 
 /// The law that in a checked program each index is that of something that is there: that of a variable or a vertex set
 /// is the index of one that is visible and has its name, and vectors, functions, labels and names are in their tables. An
-/// entry stands at a vertex of its function, or, in `main` alone, at an index, which a run tests.
+/// entry is at a vertex of its function, or, in `main` alone, at an index, which a run tests.
 pub fn checked_programs_are_resolved()
     ensures { (source : SourceTree) (length : ℕ) (program : ProgramTree) → Checks source length (Ok program) → IsResolved program }
 {}
@@ -79,7 +79,7 @@ pub fn checked_programs_are_resolved()
 /// statement changes, filters, applies a vertex function to or has as an end of an edge apply is visible by its name: so two
 /// references by the same name are to one set. A set that is changed is a variable.
 ///
-/// Of the constant sets those that stand before `main` are visible. One after it may have the name of a variable in it.
+/// Of the constant sets those that are before `main` are visible. One after it may have the name of a variable in it.
 pub fn checked_programs_name_visible_sets_apart()
     ensures { (source : SourceTree) (length : ℕ) (program : ProgramTree) → Checks source length (Ok program) → NamesSetsApart program }
 {}

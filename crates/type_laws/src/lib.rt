@@ -22,7 +22,7 @@
 //!   (`checked_sources_are_well_typed`);
 //! - functions read and write vectors at their own vertices, and no index of `main` has an entry in it
 //!   (`checked_sources_access_own_entries`);
-//! - `print` stands in `main` alone (`checked_sources_print_in_main_alone`), and one function is `main`
+//! - `print` is in `main` alone (`checked_sources_print_in_main_alone`), and one function is `main`
 //!   (`checked_sources_declare_main`);
 //! - no label stands twice (`checked_sources_have_distinct_labels`).
 //!
@@ -33,7 +33,7 @@
 //! a vector asks for one that the edge function writes (`checked_programs_ask_for_written_vectors`). No statement assigns
 //! the variable of a `for` around it (`checked_programs_keep_loop_variables`).
 //!
-//! No crate of the program stands on this one, so that its proofs are off the way of a build.
+//! No crate of the program depends on this one, so that its proofs are off the way of a build.
 #![tactic(auto)]
 
 mod laws;

@@ -11,7 +11,7 @@ use Rattle.typed_tree.specs.IntExpressionTree.{IntExpressionTree}
 use Rattle.typed_tree.specs.IntExpressionTree as integer
 use Rattle.typed_tree.specs.BoolExpressionTree.{BoolExpressionTree}
 use Rattle.typed_tree.specs.BoolExpressionTree as condition
-use Rattle.typed_tree.specs.FunctionStatementTree.{FunctionTree, FunctionStatementTree, FunctionStatementsTree, DeclareInteger, DeclareCondition, SetInteger, SetCondition, ReduceInteger, SetEntry}
+use Rattle.typed_tree.specs.FunctionStatementTree.{FunctionTree, FunctionStatementTree, FunctionStatementsTree, DeclareInt, DeclareBool, SetInt, SetBool, ReduceInt, SetEntry}
 use Rattle.typed_tree.specs.FunctionStatementTree.{ReduceEntry, If, IfElse, NoStep, StepThen}
 use Rattle.typed_tree.specs.Fold.{all_pass, condition_fold, end_fold, function_fold, gathered, integer_fold, step_fold, steps_fold, steps_fold_where}
 
@@ -42,11 +42,11 @@ module _ (passes : Access → Bool) (gives : Access → List ℕ) (P : ℕ → B
 
   mutual
     pub step_gathered : (step : FunctionStatementTree) → step_fold (all_pass passes) step ≡ list_all P (step_fold (gathered gives) step)
-    step_gathered (DeclareInteger name e) = integer_gathered e
-    step_gathered (DeclareCondition name c) = condition_gathered c
-    step_gathered (SetInteger slot e) = integer_gathered e
-    step_gathered (SetCondition slot c) = condition_gathered c
-    step_gathered (ReduceInteger slot reduction e) = integer_gathered e
+    step_gathered (DeclareInt name e) = integer_gathered e
+    step_gathered (DeclareBool name c) = condition_gathered c
+    step_gathered (SetInt slot e) = integer_gathered e
+    step_gathered (SetBool slot c) = condition_gathered c
+    step_gathered (ReduceInt slot reduction e) = integer_gathered e
     step_gathered (SetEntry vector e) = two _ _ (gives (Write vector)) (integer_fold (gathered gives) e) (each (Write vector)) (integer_gathered e)
     step_gathered (ReduceEntry vector reduction e) = two _ _ (gives (Write vector)) (integer_fold (gathered gives) e) (each (Write vector)) (integer_gathered e)
     step_gathered (If c body) = two _ _ (condition_fold (gathered gives) c) (steps_fold (gathered gives) body) (condition_gathered c) (steps_gathered body)

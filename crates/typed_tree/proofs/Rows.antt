@@ -6,7 +6,7 @@ use Rattle.typed_tree.specs.declared.expression.Connective.{Connective}
 use Rattle.typed_tree.specs.declared.expression.BoolExpression.{BoolExpression}
 use Rattle.typed_tree.specs.IntExpressionTree.{IntExpressionTree, Arithmetic, int_expression_tree, negated}
 use Rattle.typed_tree.specs.inside.IntExpressionTree.{operands_tree}
-use Rattle.typed_tree.specs.BoolExpressionTree.{BoolExpressionTree, Connect, bool_expression_tree, turned}
+use Rattle.typed_tree.specs.BoolExpressionTree.{BoolExpressionTree, Connect, bool_expression_tree, inverted}
 use Rattle.typed_tree.specs.inside.BoolExpressionTree.{conditions_tree}
 use Rattle.typed_tree.specs.Fold.{all_pass, condition_fold, conditions_fold, integer_fold, operands_fold}
 
@@ -23,9 +23,9 @@ module _ (passes : Access → Bool) where
   passes_negated zero e = refl
   passes_negated (suc n) e = passes_negated n e
 
-  pub passes_turned : (turns : ℕ) (c : BoolExpressionTree) → condition_fold (all_pass passes) c ≡ condition_fold (all_pass passes) (turned turns c)
-  passes_turned zero c = refl
-  passes_turned (suc n) c = passes_turned n c
+  pub passes_inverted : (nots : ℕ) (c : BoolExpressionTree) → condition_fold (all_pass passes) c ≡ condition_fold (all_pass passes) (inverted nots c)
+  passes_inverted zero c = refl
+  passes_inverted (suc n) c = passes_inverted n c
 
   pub passes_operands : (left : IntExpressionTree) (operands : List Operand)
       → integer_fold (all_pass passes) left && operands_fold (all_pass passes) operands ≡ integer_fold (all_pass passes) (operands_tree left operands)

@@ -13,18 +13,18 @@ use Rattle.typed_tree.specs.BoolExpressionTree.{BoolExpressionTree, bool_express
 mutual
   -- what a statement does
   pub data StatementKindTree : Type 0 where
-    DeclareInteger : (name : ℕ) → IntExpressionTree → StatementKindTree
-    DeclareCondition : (name : ℕ) → BoolExpressionTree → StatementKindTree
-    SetInteger : VarRef → IntExpressionTree → StatementKindTree
-    SetCondition : VarRef → BoolExpressionTree → StatementKindTree
-    ReduceInteger : VarRef → Reduction → IntExpressionTree → StatementKindTree
+    DeclareInt : (name : ℕ) → IntExpressionTree → StatementKindTree
+    DeclareBool : (name : ℕ) → BoolExpressionTree → StatementKindTree
+    SetInt : VarRef → IntExpressionTree → StatementKindTree
+    SetBool : VarRef → BoolExpressionTree → StatementKindTree
+    ReduceInt : VarRef → Reduction → IntExpressionTree → StatementKindTree
     SetEntry : (vector : ℕ) → (index value : IntExpressionTree) → StatementKindTree
     ReduceEntry : (vector : ℕ) → (index : IntExpressionTree) → Reduction → (value : IntExpressionTree) → StatementKindTree
     DeclareSet : (name : ℕ) → SetValue → StatementKindTree
     AssignSet : VarRef → SetValue → StatementKindTree
     AddVertex : VarRef → IntExpressionTree → StatementKindTree
-    PrintInteger : IntExpressionTree → StatementKindTree
-    PrintCondition : BoolExpressionTree → StatementKindTree
+    PrintInt : IntExpressionTree → StatementKindTree
+    PrintBool : BoolExpressionTree → StatementKindTree
     ApplyVertex : (set : VarRef) → (function : ℕ) → StatementKindTree
     ApplyEdges : ApplyEnds → (function : ℕ) → StatementKindTree
     If : BoolExpressionTree → BlockTree → StatementKindTree
@@ -40,18 +40,18 @@ mutual
 -- the tree that a Rust tree is
 abbrev mutual
   pub statement_kind_tree : StatementKind → StatementKindTree
-  statement_kind_tree (rust.DeclareInteger name e) = DeclareInteger name (int_expression_tree e)
-  statement_kind_tree (rust.DeclareCondition name c) = DeclareCondition name (bool_expression_tree c)
-  statement_kind_tree (rust.SetInteger slot e) = SetInteger slot (int_expression_tree e)
-  statement_kind_tree (rust.SetCondition slot c) = SetCondition slot (bool_expression_tree c)
-  statement_kind_tree (rust.ReduceInteger slot reduction e) = ReduceInteger slot reduction (int_expression_tree e)
+  statement_kind_tree (rust.DeclareInt name e) = DeclareInt name (int_expression_tree e)
+  statement_kind_tree (rust.DeclareBool name c) = DeclareBool name (bool_expression_tree c)
+  statement_kind_tree (rust.SetInt slot e) = SetInt slot (int_expression_tree e)
+  statement_kind_tree (rust.SetBool slot c) = SetBool slot (bool_expression_tree c)
+  statement_kind_tree (rust.ReduceInt slot reduction e) = ReduceInt slot reduction (int_expression_tree e)
   statement_kind_tree (rust.SetEntry vector index value) = SetEntry vector (int_expression_tree index) (int_expression_tree value)
   statement_kind_tree (rust.ReduceEntry vector index reduction value) = ReduceEntry vector (int_expression_tree index) reduction (int_expression_tree value)
   statement_kind_tree (rust.DeclareSet name set) = DeclareSet name set
   statement_kind_tree (rust.AssignSet slot set) = AssignSet slot set
   statement_kind_tree (rust.AddVertex slot e) = AddVertex slot (int_expression_tree e)
-  statement_kind_tree (rust.PrintInteger e) = PrintInteger (int_expression_tree e)
-  statement_kind_tree (rust.PrintCondition c) = PrintCondition (bool_expression_tree c)
+  statement_kind_tree (rust.PrintInt e) = PrintInt (int_expression_tree e)
+  statement_kind_tree (rust.PrintBool c) = PrintBool (bool_expression_tree c)
   statement_kind_tree (rust.ApplyVertex set function) = ApplyVertex set function
   statement_kind_tree (rust.ApplyEdges ends function) = ApplyEdges ends function
   statement_kind_tree (rust.If' c shape body) = If (bool_expression_tree c) (row_tree body)

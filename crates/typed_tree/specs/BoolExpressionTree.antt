@@ -15,10 +15,10 @@ pub data BoolExpressionTree : Type 0 where
   Compare : ComparisonOperator → (left right : IntExpressionTree) → BoolExpressionTree
   Connect : Connective → (left right : BoolExpressionTree) → BoolExpressionTree
 
--- the tree turned so many times
-abbrev pub turned : ℕ → BoolExpressionTree → BoolExpressionTree
-turned zero c = c
-turned (suc n) c = Not (turned n c)
+-- the tree inverted so many times
+abbrev pub inverted : ℕ → BoolExpressionTree → BoolExpressionTree
+inverted zero c = c
+inverted (suc n) c = Not (inverted n c)
 
 -- the tree that a Rust tree is; operators of one level are grouped from the left
 abbrev mutual
@@ -26,7 +26,7 @@ abbrev mutual
   bool_expression_tree (rust.Literal b) = Literal b
   bool_expression_tree (rust.Constant name b) = Constant name b
   bool_expression_tree (rust.Variable slot) = Variable slot
-  bool_expression_tree (rust.Not' turns p c) = turned turns (bool_expression_tree c)
+  bool_expression_tree (rust.Not' nots p c) = inverted nots (bool_expression_tree c)
   bool_expression_tree (rust.Compare comparison left right) = Compare comparison (int_expression_tree left) (int_expression_tree right)
   bool_expression_tree (rust.Connect' connective p first shape conditions) = conditions_row connective (bool_expression_tree first) conditions
 

@@ -10,8 +10,8 @@ use Rattle.typed_tree.specs.IntExpressionTree.{IntExpressionTree, int_expression
 use Rattle.typed_tree.specs.IntExpressionTree as integer
 use Rattle.typed_tree.specs.BoolExpressionTree.{BoolExpressionTree, bool_expression_tree}
 use Rattle.typed_tree.specs.BoolExpressionTree as condition
-use Rattle.typed_tree.specs.FunctionStatementTree.{FunctionTree, FunctionStatementTree, FunctionStatementsTree, DeclareInteger, DeclareCondition, SetInteger}
-use Rattle.typed_tree.specs.FunctionStatementTree.{SetCondition, ReduceInteger, SetEntry, ReduceEntry, If, IfElse, NoStep, StepThen}
+use Rattle.typed_tree.specs.FunctionStatementTree.{FunctionTree, FunctionStatementTree, FunctionStatementsTree, DeclareInt, DeclareBool, SetInt}
+use Rattle.typed_tree.specs.FunctionStatementTree.{SetBool, ReduceInt, SetEntry, ReduceEntry, If, IfElse, NoStep, StepThen}
 
 -- what a walk gives
 pub record Fold (R : Type 0) : Type 0 where
@@ -55,11 +55,11 @@ module _ {R : Type 0} (f : Fold R) where
 
   abbrev mutual
     pub step_fold : FunctionStatementTree → R
-    step_fold (DeclareInteger name e) = f.expression (integer_fold e)
-    step_fold (DeclareCondition name c) = f.expression (condition_fold c)
-    step_fold (SetInteger slot e) = f.expression (integer_fold e)
-    step_fold (SetCondition slot c) = f.expression (condition_fold c)
-    step_fold (ReduceInteger slot reduction e) = f.expression (integer_fold e)
+    step_fold (DeclareInt name e) = f.expression (integer_fold e)
+    step_fold (DeclareBool name c) = f.expression (condition_fold c)
+    step_fold (SetInt slot e) = f.expression (integer_fold e)
+    step_fold (SetBool slot c) = f.expression (condition_fold c)
+    step_fold (ReduceInt slot reduction e) = f.expression (integer_fold e)
     step_fold (SetEntry vector e) = f.join (f.access (Write vector)) (f.expression (integer_fold e))
     step_fold (ReduceEntry vector reduction e) = f.join (f.access (Write vector)) (f.expression (integer_fold e))
     step_fold (If c body) = f.join (f.expression (condition_fold c)) (steps_fold body)

@@ -12,11 +12,11 @@ use Rattle.typed_tree.specs.BoolExpressionTree.{BoolExpressionTree, bool_express
 mutual
   -- a statement of a function
   pub data FunctionStatementTree : Type 0 where
-    DeclareInteger : (name : ℕ) → IntExpressionTree → FunctionStatementTree
-    DeclareCondition : (name : ℕ) → BoolExpressionTree → FunctionStatementTree
-    SetInteger : VarRef → IntExpressionTree → FunctionStatementTree
-    SetCondition : VarRef → BoolExpressionTree → FunctionStatementTree
-    ReduceInteger : VarRef → Reduction → IntExpressionTree → FunctionStatementTree
+    DeclareInt : (name : ℕ) → IntExpressionTree → FunctionStatementTree
+    DeclareBool : (name : ℕ) → BoolExpressionTree → FunctionStatementTree
+    SetInt : VarRef → IntExpressionTree → FunctionStatementTree
+    SetBool : VarRef → BoolExpressionTree → FunctionStatementTree
+    ReduceInt : VarRef → Reduction → IntExpressionTree → FunctionStatementTree
     SetEntry : (vector : ℕ) → (value : IntExpressionTree) → FunctionStatementTree
     ReduceEntry : (vector : ℕ) → Reduction → (value : IntExpressionTree) → FunctionStatementTree
     If : BoolExpressionTree → FunctionStatementsTree → FunctionStatementTree
@@ -35,11 +35,11 @@ pub record FunctionTree : Type 0 where
 -- the tree that a Rust tree is
 abbrev mutual
   pub function_statement_tree : FunctionStatement → FunctionStatementTree
-  function_statement_tree (rust.DeclareInteger name e) = DeclareInteger name (int_expression_tree e)
-  function_statement_tree (rust.DeclareCondition name c) = DeclareCondition name (bool_expression_tree c)
-  function_statement_tree (rust.SetInteger slot e) = SetInteger slot (int_expression_tree e)
-  function_statement_tree (rust.SetCondition slot c) = SetCondition slot (bool_expression_tree c)
-  function_statement_tree (rust.ReduceInteger slot reduction e) = ReduceInteger slot reduction (int_expression_tree e)
+  function_statement_tree (rust.DeclareInt name e) = DeclareInt name (int_expression_tree e)
+  function_statement_tree (rust.DeclareBool name c) = DeclareBool name (bool_expression_tree c)
+  function_statement_tree (rust.SetInt slot e) = SetInt slot (int_expression_tree e)
+  function_statement_tree (rust.SetBool slot c) = SetBool slot (bool_expression_tree c)
+  function_statement_tree (rust.ReduceInt slot reduction e) = ReduceInt slot reduction (int_expression_tree e)
   function_statement_tree (rust.SetEntry vector e) = SetEntry vector (int_expression_tree e)
   function_statement_tree (rust.ReduceEntry vector reduction e) = ReduceEntry vector reduction (int_expression_tree e)
   function_statement_tree (rust.If' c shape body) = If (bool_expression_tree c) (steps_row body)

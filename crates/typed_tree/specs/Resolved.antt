@@ -73,8 +73,8 @@ abbrev pub IsFilter : ProgramTree → ℕ → Type 0
 IsFilter p function = function < length p.filters
 
 -- what is visible at the index has the name
-abbrev pub IsIntegerVariable : ProgramTree → VisibleTree → VarRef → Type 0
-IsIntegerVariable p v slot = (slice_get v.integers slot.index ≡ Some (Some slot.name)) × IsNameIndex p slot.name
+abbrev pub IsIntVariable : ProgramTree → VisibleTree → VarRef → Type 0
+IsIntVariable p v slot = (slice_get v.integers slot.index ≡ Some (Some slot.name)) × IsNameIndex p slot.name
 
 abbrev pub IsCondition : ProgramTree → VisibleTree → VarRef → Type 0
 IsCondition p v slot = (slice_get v.conditions slot.index ≡ Some slot.name) × IsNameIndex p slot.name
@@ -82,7 +82,7 @@ IsCondition p v slot = (slice_get v.conditions slot.index ≡ Some slot.name) ×
 abbrev pub IsSetVariable : ProgramTree → VisibleTree → VarRef → Type 0
 IsSetVariable p v slot = (slice_get v.sets slot.index ≡ Some slot.name) × IsNameIndex p slot.name
 
--- the source stands before the destination
+-- the source is before the destination
 abbrev pub IsVertex : VisibleTree → Endpoint → Type 0
 IsVertex v endpoint.Source = 0 < v.vertices
 IsVertex v endpoint.Destination = 1 < v.vertices
@@ -96,7 +96,7 @@ IsLabel p (Some label) = label < length p.labels
 abbrev pub IntegerIsResolved : ProgramTree → VisibleTree → IntExpressionTree → Type 0
 IntegerIsResolved p v (integer.Number n) = Unit {0}
 IntegerIsResolved p v (integer.Constant name n) = IsNameIndex p name
-IntegerIsResolved p v (integer.Variable slot) = IsIntegerVariable p v slot
+IntegerIsResolved p v (integer.Variable slot) = IsIntVariable p v slot
 IntegerIsResolved p v (integer.Parameter at) = IsVertex v at
 IntegerIsResolved p v integer.Weight = IsVertex v endpoint.Destination
 IntegerIsResolved p v (integer.EntryAt vector at) = IsVectorIndex p vector × IsVertex v at
@@ -132,11 +132,11 @@ SetIsResolved p v (set.Modified ends function vector) = EndsAreResolved p v ends
 
 -- after a statement of a function
 abbrev pub behind_step : FunctionStatementTree → VisibleTree → VisibleTree
-behind_step (step.DeclareInteger name e) v = with_integer name v
-behind_step (step.DeclareCondition name c) v = with_condition name v
-behind_step (step.SetInteger slot e) v = v
-behind_step (step.SetCondition slot c) v = v
-behind_step (step.ReduceInteger slot by e) v = v
+behind_step (step.DeclareInt name e) v = with_integer name v
+behind_step (step.DeclareBool name c) v = with_condition name v
+behind_step (step.SetInt slot e) v = v
+behind_step (step.SetBool slot c) v = v
+behind_step (step.ReduceInt slot by e) v = v
 behind_step (step.SetEntry vector e) v = v
 behind_step (step.ReduceEntry vector by e) v = v
 behind_step (step.If c body) v = v
@@ -144,11 +144,11 @@ behind_step (step.IfElse c body other) v = v
 
 abbrev mutual
   pub StepIsResolved : ProgramTree → VisibleTree → FunctionStatementTree → Type 0
-  StepIsResolved p v (step.DeclareInteger name e) = IsNameIndex p name × IntegerIsResolved p v e
-  StepIsResolved p v (step.DeclareCondition name c) = IsNameIndex p name × ConditionIsResolved p v c
-  StepIsResolved p v (step.SetInteger slot e) = IsIntegerVariable p v slot × IntegerIsResolved p v e
-  StepIsResolved p v (step.SetCondition slot c) = IsCondition p v slot × ConditionIsResolved p v c
-  StepIsResolved p v (step.ReduceInteger slot by e) = IsIntegerVariable p v slot × IntegerIsResolved p v e
+  StepIsResolved p v (step.DeclareInt name e) = IsNameIndex p name × IntegerIsResolved p v e
+  StepIsResolved p v (step.DeclareBool name c) = IsNameIndex p name × ConditionIsResolved p v c
+  StepIsResolved p v (step.SetInt slot e) = IsIntVariable p v slot × IntegerIsResolved p v e
+  StepIsResolved p v (step.SetBool slot c) = IsCondition p v slot × ConditionIsResolved p v c
+  StepIsResolved p v (step.ReduceInt slot by e) = IsIntVariable p v slot × IntegerIsResolved p v e
   StepIsResolved p v (step.SetEntry vector e) = IsVectorIndex p vector × IntegerIsResolved p v e
   StepIsResolved p v (step.ReduceEntry vector by e) = IsVectorIndex p vector × IntegerIsResolved p v e
   StepIsResolved p v (step.If c body) = ConditionIsResolved p v c × StepsAreResolved p v body
@@ -161,18 +161,18 @@ abbrev mutual
 
 -- after a statement of main
 abbrev pub after_action : StatementKindTree → VisibleTree → VisibleTree
-after_action (action.DeclareInteger name e) v = with_integer name v
-after_action (action.DeclareCondition name c) v = with_condition name v
-after_action (action.SetInteger slot e) v = v
-after_action (action.SetCondition slot c) v = v
-after_action (action.ReduceInteger slot by e) v = v
+after_action (action.DeclareInt name e) v = with_integer name v
+after_action (action.DeclareBool name c) v = with_condition name v
+after_action (action.SetInt slot e) v = v
+after_action (action.SetBool slot c) v = v
+after_action (action.ReduceInt slot by e) v = v
 after_action (action.SetEntry vector index e) v = v
 after_action (action.ReduceEntry vector index by e) v = v
 after_action (action.DeclareSet name value) v = with_set name v
 after_action (action.AssignSet slot value) v = v
 after_action (action.AddVertex slot e) v = v
-after_action (action.PrintInteger e) v = v
-after_action (action.PrintCondition c) v = v
+after_action (action.PrintInt e) v = v
+after_action (action.PrintBool c) v = v
 after_action (action.ApplyVertex slot function) v = v
 after_action (action.ApplyEdges ends function) v = v
 after_action (action.If c body) v = v
@@ -182,18 +182,18 @@ after_action (action.For name first end body) v = v
 
 abbrev mutual
   pub ActionIsResolved : ProgramTree → VisibleTree → StatementKindTree → Type 0
-  ActionIsResolved p v (action.DeclareInteger name e) = IsNameIndex p name × IntegerIsResolved p v e
-  ActionIsResolved p v (action.DeclareCondition name c) = IsNameIndex p name × ConditionIsResolved p v c
-  ActionIsResolved p v (action.SetInteger slot e) = IsIntegerVariable p v slot × IntegerIsResolved p v e
-  ActionIsResolved p v (action.SetCondition slot c) = IsCondition p v slot × ConditionIsResolved p v c
-  ActionIsResolved p v (action.ReduceInteger slot by e) = IsIntegerVariable p v slot × IntegerIsResolved p v e
+  ActionIsResolved p v (action.DeclareInt name e) = IsNameIndex p name × IntegerIsResolved p v e
+  ActionIsResolved p v (action.DeclareBool name c) = IsNameIndex p name × ConditionIsResolved p v c
+  ActionIsResolved p v (action.SetInt slot e) = IsIntVariable p v slot × IntegerIsResolved p v e
+  ActionIsResolved p v (action.SetBool slot c) = IsCondition p v slot × ConditionIsResolved p v c
+  ActionIsResolved p v (action.ReduceInt slot by e) = IsIntVariable p v slot × IntegerIsResolved p v e
   ActionIsResolved p v (action.SetEntry vector index e) = IsVectorIndex p vector × IntegerIsResolved p v index × IntegerIsResolved p v e
   ActionIsResolved p v (action.ReduceEntry vector index by e) = IsVectorIndex p vector × IntegerIsResolved p v index × IntegerIsResolved p v e
   ActionIsResolved p v (action.DeclareSet name value) = IsNameIndex p name × SetIsResolved p v value
   ActionIsResolved p v (action.AssignSet slot value) = IsSetVariable p v slot × SetIsResolved p v value
   ActionIsResolved p v (action.AddVertex slot e) = IsSetVariable p v slot × IntegerIsResolved p v e
-  ActionIsResolved p v (action.PrintInteger e) = IntegerIsResolved p v e
-  ActionIsResolved p v (action.PrintCondition c) = ConditionIsResolved p v c
+  ActionIsResolved p v (action.PrintInt e) = IntegerIsResolved p v e
+  ActionIsResolved p v (action.PrintBool c) = ConditionIsResolved p v c
   ActionIsResolved p v (action.ApplyVertex slot function) = IsSetVariable p v slot × IsVertexFunction p function
   ActionIsResolved p v (action.ApplyEdges ends function) = EndsAreResolved p v ends × IsEdgeFunction p function
   ActionIsResolved p v (action.If c body) = ConditionIsResolved p v c × BlockIsResolved p v body

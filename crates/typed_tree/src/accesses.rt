@@ -74,7 +74,7 @@ fn operands_pass<T: AccessTest>(operands: &[Operand], test: &T) -> bool
 
 /// Whether each access of the condition passes.
 #[cycle(conditions)]
-#[tactic(auto, using(crate::proofs::Rows::passes_turned))]
+#[tactic(auto, using(crate::proofs::Rows::passes_inverted))]
 fn condition_passes<T: AccessTest>(c: &BoolExpression, test: &T) -> bool
     ensures { result ≡ condition_fold (all_pass (T.passes test.now)) (bool_expression_tree c.now) }
 {
@@ -123,11 +123,12 @@ fn step_passes<T: AccessTest>(step: &FunctionStatement, test: &T) -> bool
     ensures { result ≡ step_fold (all_pass (T.passes test.now)) (function_statement_tree step.now) }
 {
     match step {
-        FunctionStatement::DeclareInteger(_, e)
-        | FunctionStatement::SetInteger(_, e)
-        | FunctionStatement::ReduceInteger(_, _, e) => integer_passes(e, test),
-        FunctionStatement::DeclareCondition(_, c) | FunctionStatement::SetCondition(_, c) =>
-            condition_passes(c, test),
+        FunctionStatement::DeclareInt(_, e)
+        | FunctionStatement::SetInt(_, e)
+        | FunctionStatement::ReduceInt(_, _, e) => integer_passes(e, test),
+        FunctionStatement::DeclareBool(_, c) | FunctionStatement::SetBool(_, c) => condition_passes(
+            c, test,
+        ),
         FunctionStatement::SetEntry(vector, e) | FunctionStatement::ReduceEntry(vector, _, e) => {
             test.passes(Access::Write(*vector)) && integer_passes(e, test)
         }

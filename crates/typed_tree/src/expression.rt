@@ -1,6 +1,6 @@
 //! Expressions, each of one type.
 
-/// What a run keeps and a name stands for.
+/// What a run keeps and a name means.
 #[derive(Clone, Copy, Debug, PartialEq, Eq)]
 pub struct VarRef {
     /// Its index among the visible ones of its kind: integers, conditions or vertex sets.
@@ -89,7 +89,7 @@ pub enum BoolExpression {
     Constant(usize, bool),
     /// A variable of `main` or of the function, or a filter's result.
     Variable(VarRef),
-    /// The truth value turned so many times.
+    /// The truth value inverted so many times.
     Not(usize, Box<BoolExpression>),
     /// A comparison of two integers.
     Compare(ComparisonOperator, IntExpression, IntExpression),

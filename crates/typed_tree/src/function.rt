@@ -7,14 +7,14 @@ use apply_options::Reduction;
 #[cycle(steps)]
 pub enum FunctionStatement {
     /// Declares an int variable, whose name is at this index, with its first value.
-    DeclareInteger(usize, IntExpression),
+    DeclareInt(usize, IntExpression),
     /// Declares a bool variable, whose name is at this index, with its first value.
-    DeclareCondition(usize, BoolExpression),
-    SetInteger(VarRef, IntExpression),
+    DeclareBool(usize, BoolExpression),
+    SetInt(VarRef, IntExpression),
     /// Sets a variable or the filter's result.
-    SetCondition(VarRef, BoolExpression),
+    SetBool(VarRef, BoolExpression),
     /// Reduces the variable with the value.
-    ReduceInteger(VarRef, Reduction, IntExpression),
+    ReduceInt(VarRef, Reduction, IntExpression),
     /// In a vertex function: the entry of the vector at this index gets the value, at the function's vertex.
     SetEntry(usize, IntExpression),
     /// The entry of the vector at this index is reduced with the value: in a vertex function at its vertex, in
@@ -36,11 +36,11 @@ impl Drop for FunctionStatement {
     #[cycle(drops)]
     fn drop(self) {
         match self {
-            FunctionStatement::DeclareInteger(_, _)
-            | FunctionStatement::DeclareCondition(_, _)
-            | FunctionStatement::SetInteger(_, _)
-            | FunctionStatement::SetCondition(_, _)
-            | FunctionStatement::ReduceInteger(_, _, _)
+            FunctionStatement::DeclareInt(_, _)
+            | FunctionStatement::DeclareBool(_, _)
+            | FunctionStatement::SetInt(_, _)
+            | FunctionStatement::SetBool(_, _)
+            | FunctionStatement::ReduceInt(_, _, _)
             | FunctionStatement::SetEntry(_, _)
             | FunctionStatement::ReduceEntry(_, _, _)
             | FunctionStatement::If(_, _)

@@ -4,7 +4,7 @@
 //! order in which they are declared, the statements of `main`, and the calls of the schedule. What a tree
 //! speaks of it names by an index: a vector, a function and a name by its index in the program's list, a
 //! variable and a set by its index among those that are visible (`VarRef`), the vertex that a function works on
-//! by `Endpoint`. Integers and conditions are types of their own, so that no number stands for a truth value.
+//! by `Endpoint`. Integers and conditions are types of their own, so that no number means a truth value.
 //! A named constant keeps its name beside its value, and a statement its number and its label.
 //!
 //! Each Rust type is plain data. Contracts speak of pure trees, which have no pointers: each file of
@@ -13,7 +13,7 @@
 //! signs in a row one count, so that no code recurses by their number; the pure trees nest.
 //!
 //! `specs/Resolved.antt` says what it is for each index in a program to be that of something that is there, and for
-//! entries at an index to stand in `main` alone (`IsResolved`). The checker's programs are so by a law of `types`.
+//! entries at an index to be in `main` alone (`IsResolved`). The checker's programs are so by a law of `types`.
 //!
 //! What functions read and write besides their own variables is found by one walk over their trees. `specs/Fold.antt`
 //! says what it gives for each kind of tree, and the definitions of what functions use, of whatever crate, are cases of
@@ -23,7 +23,7 @@
 //! The trees have their `Drop` by hand. A derived one would be written out, and proved again, in each
 //! function of each crate where a tree ends.
 //!
-//! The checker, which makes these trees, the meaning of programs and the schedule stand on this crate.
+//! The checker, which makes these trees, the meaning of programs and the schedule depend on this crate.
 #![tactic(auto)]
 
 mod accesses;

@@ -50,13 +50,13 @@ pub struct ApplyEnds {
 #[cycle(statements)]
 pub enum StatementKind {
     /// Declares an int variable, whose name is at this index, with its first value.
-    DeclareInteger(usize, IntExpression),
+    DeclareInt(usize, IntExpression),
     /// Declares a bool variable, whose name is at this index, with its first value.
-    DeclareCondition(usize, BoolExpression),
-    SetInteger(VarRef, IntExpression),
-    SetCondition(VarRef, BoolExpression),
+    DeclareBool(usize, BoolExpression),
+    SetInt(VarRef, IntExpression),
+    SetBool(VarRef, BoolExpression),
     /// Reduces the variable with the value.
-    ReduceInteger(VarRef, Reduction, IntExpression),
+    ReduceInt(VarRef, Reduction, IntExpression),
     /// The vector at this index gets an entry at the index, which must be a vertex: first the index,
     /// then the value.
     SetEntry(usize, IntExpression, IntExpression),
@@ -68,9 +68,9 @@ pub enum StatementKind {
     /// Adds the vertex to the set; it must be one.
     AddVertex(VarRef, IntExpression),
     /// Writes the number and a line feed.
-    PrintInteger(IntExpression),
+    PrintInt(IntExpression),
     /// Writes `true` or `false` and a line feed.
-    PrintCondition(BoolExpression),
+    PrintBool(BoolExpression),
     /// Runs the vertex function at this index for each vertex of the set.
     ApplyVertex(VarRef, usize),
     /// Applies the edge function at this index to the edges between the ends.
@@ -98,18 +98,18 @@ impl Drop for StatementKind {
     #[cycle(drops)]
     fn drop(self) {
         match self {
-            StatementKind::DeclareInteger(_, _)
-            | StatementKind::DeclareCondition(_, _)
-            | StatementKind::SetInteger(_, _)
-            | StatementKind::SetCondition(_, _)
-            | StatementKind::ReduceInteger(_, _, _)
+            StatementKind::DeclareInt(_, _)
+            | StatementKind::DeclareBool(_, _)
+            | StatementKind::SetInt(_, _)
+            | StatementKind::SetBool(_, _)
+            | StatementKind::ReduceInt(_, _, _)
             | StatementKind::SetEntry(_, _, _)
             | StatementKind::ReduceEntry(_, _, _, _)
             | StatementKind::DeclareSet(_, _)
             | StatementKind::AssignSet(_, _)
             | StatementKind::AddVertex(_, _)
-            | StatementKind::PrintInteger(_)
-            | StatementKind::PrintCondition(_)
+            | StatementKind::PrintInt(_)
+            | StatementKind::PrintBool(_)
             | StatementKind::ApplyVertex(_, _)
             | StatementKind::ApplyEdges(_, _)
             | StatementKind::If(_, _)

@@ -16,7 +16,7 @@ use Rattle.typed_tree.specs.declared.expression.Endpoint.{Endpoint}
 use Rattle.typed_tree.specs.declared.expression.Endpoint.TheVariants as endpoint
 use Rattle.typed_tree.specs.BlockTree.{BlockTree, Empty}
 use Rattle.typed_tree.specs.IntExpressionTree.{IntExpressionTree}
-use Rattle.typed_tree.specs.FunctionStatementTree.{FunctionTree, FunctionStatementTree, FunctionStatementsTree, DeclareInteger, DeclareCondition, SetInteger, SetCondition, ReduceInteger, SetEntry}
+use Rattle.typed_tree.specs.FunctionStatementTree.{FunctionTree, FunctionStatementTree, FunctionStatementsTree, DeclareInt, DeclareBool, SetInt, SetBool, ReduceInt, SetEntry}
 use Rattle.typed_tree.specs.FunctionStatementTree.{ReduceEntry, If, IfElse, NoStep, StepThen}
 use Rattle.expression_types.specs.declared.scope.Entity.{Entity}
 use Rattle.expression_types.specs.declared.scope.Entity.TheVariants as entity
@@ -33,7 +33,7 @@ use Rattle.types.specs.EdgeWrites.{ReducesInOneWay, SetsNoEntry, StepReduces, St
 use Rattle.types.specs.Initial.{InitializerTree, initializer_of}
 use Rattle.types.specs.Step.{assigned_step, declare_step_as, entry_step, may_reduce, may_set, one_reduction, own_vertex, reduce_entry_step, reduced_as, reduced_step, reduction_step, same_reduction}
 use Rattle.types.specs.Step.{step_after, step_typed, steps_after, steps_typed, with_writes, written_at, written_with}
-use Rattle.types.specs.Program.{opening, program_of, set_count}
+use Rattle.types.specs.Program.{no_declarations, program_of, set_count}
 
 -- what is written: each vector with its reduction
 abbrev pub Writes : Type 0
@@ -46,11 +46,11 @@ Extends old new = (vector : ℕ) (by : Reduction) → lookup (nat_eq vector) old
 abbrev mutual
   -- no entry is set, and each is reduced as is written
   pub StepAgrees : Writes → FunctionStatementTree → Type 0
-  StepAgrees writes (DeclareInteger name e) = Unit {0}
-  StepAgrees writes (DeclareCondition name c) = Unit {0}
-  StepAgrees writes (SetInteger slot e) = Unit {0}
-  StepAgrees writes (SetCondition slot c) = Unit {0}
-  StepAgrees writes (ReduceInteger slot by e) = Unit {0}
+  StepAgrees writes (DeclareInt name e) = Unit {0}
+  StepAgrees writes (DeclareBool name c) = Unit {0}
+  StepAgrees writes (SetInt slot e) = Unit {0}
+  StepAgrees writes (SetBool slot c) = Unit {0}
+  StepAgrees writes (ReduceInt slot by e) = Unit {0}
   StepAgrees writes (SetEntry vector e) = ⊥
   StepAgrees writes (ReduceEntry vector by e) = lookup (nat_eq vector) writes ≡ Some by
   StepAgrees writes (If c body) = StepsAgree writes body
@@ -62,11 +62,11 @@ abbrev mutual
 
 mutual
   step_extends : (old new : Writes) (step : FunctionStatementTree) → Extends old new → StepAgrees old step → StepAgrees new step
-  step_extends old new (DeclareInteger name e) more agrees = tt
-  step_extends old new (DeclareCondition name c) more agrees = tt
-  step_extends old new (SetInteger slot e) more agrees = tt
-  step_extends old new (SetCondition slot c) more agrees = tt
-  step_extends old new (ReduceInteger slot by e) more agrees = tt
+  step_extends old new (DeclareInt name e) more agrees = tt
+  step_extends old new (DeclareBool name c) more agrees = tt
+  step_extends old new (SetInt slot e) more agrees = tt
+  step_extends old new (SetBool slot c) more agrees = tt
+  step_extends old new (ReduceInt slot by e) more agrees = tt
   step_extends old new (SetEntry vector e) more agrees = agrees
   step_extends old new (ReduceEntry vector by e) more agrees = more vector by agrees
   step_extends old new (If c body) more agrees = steps_extend old new body more agrees
@@ -110,8 +110,8 @@ abbrev pub Fits : CheckerTree → FunctionStatementTree × CheckerTree → Type 
 Fits c r = GoesOn c r.1 × StepAgrees r.1.writes r.0
 
 declare_fits : (c : CheckerTree) (at : ℕ) (name : Identifier) (initializer : InitializerTree) (type : DeclaredType) → Fits c (declare_step_as c at name initializer type).value
-declare_fits c at name initializer declared.Int = (declared_goes c name (entity.IntegerVariable (integer_slot c)), tt)
-declare_fits c at name initializer declared.Bool = (declared_goes c name (entity.ConditionVariable (condition_slot c)), tt)
+declare_fits c at name initializer declared.Int = (declared_goes c name (entity.IntVariable (integer_slot c)), tt)
+declare_fits c at name initializer declared.Bool = (declared_goes c name (entity.BoolVariable (condition_slot c)), tt)
 declare_fits c at name initializer declared.Vertex = (declared_goes c name entity.Error, tt)
 declare_fits c at name initializer declared.VertexSet = (declared_goes c name entity.Error, tt)
 declare_fits c at name initializer declared.Vector = (declared_goes c name entity.Error, tt)
@@ -260,11 +260,11 @@ mutual
 mutual
   reduced_as_written : (writes : Writes) (vector : ℕ) (by : Reduction) (step : FunctionStatementTree) → StepAgrees writes step → StepReduces vector by step
       → lookup (nat_eq vector) writes ≡ Some by
-  reduced_as_written writes vector by (DeclareInteger name e) agrees reduces = absurd reduces
-  reduced_as_written writes vector by (DeclareCondition name c) agrees reduces = absurd reduces
-  reduced_as_written writes vector by (SetInteger slot e) agrees reduces = absurd reduces
-  reduced_as_written writes vector by (SetCondition slot c) agrees reduces = absurd reduces
-  reduced_as_written writes vector by (ReduceInteger slot other e) agrees reduces = absurd reduces
+  reduced_as_written writes vector by (DeclareInt name e) agrees reduces = absurd reduces
+  reduced_as_written writes vector by (DeclareBool name c) agrees reduces = absurd reduces
+  reduced_as_written writes vector by (SetInt slot e) agrees reduces = absurd reduces
+  reduced_as_written writes vector by (SetBool slot c) agrees reduces = absurd reduces
+  reduced_as_written writes vector by (ReduceInt slot other e) agrees reduces = absurd reduces
   reduced_as_written writes vector by (SetEntry index e) agrees reduces = absurd reduces
   reduced_as_written writes vector by (ReduceEntry index other e) agrees reduces =
       ap (λ v. lookup (nat_eq v) writes) (sym reduces.0) ∙ agrees ∙ ap Some reduces.1
@@ -280,11 +280,11 @@ mutual
 
 mutual
   step_sets_none : (writes : Writes) (step : FunctionStatementTree) → StepAgrees writes step → StepSetsNoEntry step
-  step_sets_none writes (DeclareInteger name e) agrees = tt
-  step_sets_none writes (DeclareCondition name c) agrees = tt
-  step_sets_none writes (SetInteger slot e) agrees = tt
-  step_sets_none writes (SetCondition slot c) agrees = tt
-  step_sets_none writes (ReduceInteger slot by e) agrees = tt
+  step_sets_none writes (DeclareInt name e) agrees = tt
+  step_sets_none writes (DeclareBool name c) agrees = tt
+  step_sets_none writes (SetInt slot e) agrees = tt
+  step_sets_none writes (SetBool slot c) agrees = tt
+  step_sets_none writes (ReduceInt slot by e) agrees = tt
   step_sets_none writes (SetEntry vector e) agrees = agrees
   step_sets_none writes (ReduceEntry vector by e) agrees = tt
   step_sets_none writes (If c body) agrees = steps_set_none writes body agrees
@@ -373,4 +373,4 @@ declarations_well d [] all = all
 declarations_well d (x ∷ others) all = declarations_well (declaration_typed d x).value others (declaration_well d x all)
 
 pub edge_functions_write_well : (source : SourceTree) (length : ℕ) → AllByRecursion WritesWell (program_of source length).value.edge_functions
-edge_functions_write_well source length = declarations_well (opening (set_count source.declarations)) source.declarations tt
+edge_functions_write_well source length = declarations_well (no_declarations (set_count source.declarations)) source.declarations tt

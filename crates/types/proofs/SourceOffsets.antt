@@ -26,7 +26,7 @@ use Rattle.types.specs.Declaration.{declare_function, declare_name, function_dec
 use Rattle.types.specs.Declaration.{parameters_declared, result_declared, result_entity, steps_declared, wanted, takes_weight}
 use Rattle.types.specs.Initial.{InitializerTree, initializer_of, is_all, is_degrees, is_loaded, is_sound}
 use Rattle.types.specs.Literal.{literal_condition, literal_integer}
-use Rattle.types.specs.Program.{chain_calls, main_of, opening, program_of, schedule_call, schedule_calls, set_count}
+use Rattle.types.specs.Program.{chain_calls, main_of, no_declarations, program_of, schedule_call, schedule_calls, set_count}
 use Rattle.types.specs.Step.{steps_typed}
 use Rattle.types.proofs.ValueOffsets.{initializer_stands}
 use Rattle.types.proofs.StatementOffsets.{declared_in_stands, statements_stand}
@@ -62,10 +62,10 @@ constant_stands : (P : ℕ → Type 0) (d : DeclaredTree) (at : ℕ) (name : Ide
     → FaultsStand P (declare_constant_as d at name initial type initializer)
 constant_stands P d at name initial declared.Int initializer here there =
     let n = literal_or_fault at (is_sound initializer) (pos 0) (literal_integer initial) in
-    both_stand P n.faults _ (literal_stands P at (is_sound initializer) (pos 0) (literal_integer initial) here) (declare_name_stands P d name (entity.IntegerConstant (next_name d) n.value) there)
+    both_stand P n.faults _ (literal_stands P at (is_sound initializer) (pos 0) (literal_integer initial) here) (declare_name_stands P d name (entity.IntConstant (next_name d) n.value) there)
 constant_stands P d at name initial declared.Bool initializer here there =
     let b = literal_or_fault at (is_sound initializer) false (literal_condition initial) in
-    both_stand P b.faults _ (literal_stands P at (is_sound initializer) false (literal_condition initial) here) (declare_name_stands P d name (entity.ConditionConstant (next_name d) b.value) there)
+    both_stand P b.faults _ (literal_stands P at (is_sound initializer) false (literal_condition initial) here) (declare_name_stands P d name (entity.BoolConstant (next_name d) b.value) there)
 constant_stands P d at name initial declared.Vertex initializer here there = (here, declare_name_stands P d name entity.Error there)
 constant_stands P d at name initial declared.VertexSet initializer here there =
     let g = has_all at initializer in
@@ -196,9 +196,9 @@ main_of_stands P end (Some main) last = tt
 -- What holds of all offsets in a source and of its length holds where a fault stands.
 pub faults_stand : (P : ℕ → Type 0) (source : SourceTree) (end : ℕ) → StandWhere P (source_terminals source) → P end → FaultsStand P (program_of source end)
 faults_stand P source end all last =
-    let d = declarations_typed (opening (set_count source.declarations)) source.declarations in
+    let d = declarations_typed (no_declarations (set_count source.declarations)) source.declarations in
     let main = main_of end d.value.main in
-    both_stand P d.faults _ (declarations_stand P (opening (set_count source.declarations)) source.declarations _ all.1.1.1.1.1.1)
+    both_stand P d.faults _ (declarations_stand P (no_declarations (set_count source.declarations)) source.declarations _ all.1.1.1.1.1.1)
     (both_stand P main.faults [] (main_of_stands P end d.value.main last) tt)
 
 -- calls of the schedule

@@ -50,10 +50,10 @@ last_stands P c name e there = let d = declared_in c name e in both_stand P d.fa
 declare_as_stands : (P : ℕ → Type 0) (c : CheckerTree) (at : ℕ) (name : Identifier) (initializer : InitializerTree) (type : DeclaredType) → P at → P name.at
     → FaultsStand P (declare_as c at name initializer type)
 declare_as_stands P c at name initializer declared.Int here there =
-    let e = initializer_integer at initializer in both_stand P e.faults _ (initializer_integer_stands P at initializer here) (last_stands P c name (entity.IntegerVariable (integer_slot c)) there)
+    let e = initializer_integer at initializer in both_stand P e.faults _ (initializer_integer_stands P at initializer here) (last_stands P c name (entity.IntVariable (integer_slot c)) there)
 declare_as_stands P c at name initializer declared.Bool here there =
     let e = initializer_condition at initializer in both_stand P e.faults _ (initializer_condition_stands P at initializer here)
-    (last_stands P c name (entity.ConditionVariable (condition_slot c)) there)
+    (last_stands P c name (entity.BoolVariable (condition_slot c)) there)
 declare_as_stands P c at name initializer declared.VertexSet here there =
     let s = initializer_members at initializer in both_stand P s.faults _ (initializer_members_stands P at initializer here) (last_stands P c name (entity.SetVariable (set_slot c)) there)
 declare_as_stands P c at name initializer declared.Vertex here there = (here, last_stands P c name entity.Error there)
@@ -62,14 +62,14 @@ declare_as_stands P c at name initializer declared.EdgeSet here there = (here, l
 declare_as_stands P c at name initializer declared.WeightedEdgeSet here there = (here, last_stands P c name entity.Error there)
 
 assigned_stands : (P : ℕ → Type 0) (at : ℕ) (initializer : InitializerTree) (e : Entity) → P at → FaultsStand P (assigned at initializer e)
-assigned_stands P at initializer (entity.IntegerVariable slot) here = let e = initializer_integer at initializer in both_stand P e.faults [] (initializer_integer_stands P at initializer here) tt
-assigned_stands P at initializer (entity.ConditionVariable slot) here = let e = initializer_condition at initializer in both_stand P e.faults [] (initializer_condition_stands P at initializer here) tt
+assigned_stands P at initializer (entity.IntVariable slot) here = let e = initializer_integer at initializer in both_stand P e.faults [] (initializer_integer_stands P at initializer here) tt
+assigned_stands P at initializer (entity.BoolVariable slot) here = let e = initializer_condition at initializer in both_stand P e.faults [] (initializer_condition_stands P at initializer here) tt
 assigned_stands P at initializer (entity.SetVariable slot) here = let s = initializer_members at initializer in both_stand P s.faults [] (initializer_members_stands P at initializer here) tt
 assigned_stands P at initializer entity.Error here = tt
 assigned_stands P at initializer _ here = (here, tt)
 
 reduced_stands : (P : ℕ → Type 0) (at : ℕ) (by : Reduction) (v : ValueTree) (e : Entity) → P at → FaultsStand P (reduced at by v e)
-reduced_stands P at by v (entity.IntegerVariable slot) here = let e = integer_wanted at v in both_stand P e.faults [] (as_integer_stands P at v here) tt
+reduced_stands P at by v (entity.IntVariable slot) here = let e = integer_wanted at v in both_stand P e.faults [] (as_integer_stands P at v here) tt
 reduced_stands P at by v entity.Error here = tt
 reduced_stands P at by v _ here = (here, tt)
 

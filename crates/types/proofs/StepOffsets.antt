@@ -34,10 +34,10 @@ use Rattle.types.proofs.StatementOffsets.{at_back, declared_in_stands, in_front,
 declare_step_as_stands : (P : ℕ → Type 0) (c : CheckerTree) (at : ℕ) (name : Identifier) (initializer : InitializerTree) (type : DeclaredType) → P at → P name.at
     → FaultsStand P (declare_step_as c at name initializer type)
 declare_step_as_stands P c at name initializer declared.Int here there =
-    let e = initializer_integer at initializer in both_stand P e.faults _ (initializer_integer_stands P at initializer here) (last_stands P c name (entity.IntegerVariable (integer_slot c)) there)
+    let e = initializer_integer at initializer in both_stand P e.faults _ (initializer_integer_stands P at initializer here) (last_stands P c name (entity.IntVariable (integer_slot c)) there)
 declare_step_as_stands P c at name initializer declared.Bool here there =
     let e = initializer_condition at initializer in both_stand P e.faults _ (initializer_condition_stands P at initializer here)
-    (last_stands P c name (entity.ConditionVariable (condition_slot c)) there)
+    (last_stands P c name (entity.BoolVariable (condition_slot c)) there)
 declare_step_as_stands P c at name initializer declared.VertexSet here there = (here, last_stands P c name entity.Error there)
 declare_step_as_stands P c at name initializer declared.Vertex here there = (here, last_stands P c name entity.Error there)
 declare_step_as_stands P c at name initializer declared.Vector here there = (here, last_stands P c name entity.Error there)
@@ -45,14 +45,14 @@ declare_step_as_stands P c at name initializer declared.EdgeSet here there = (he
 declare_step_as_stands P c at name initializer declared.WeightedEdgeSet here there = (here, last_stands P c name entity.Error there)
 
 assigned_step_stands : (P : ℕ → Type 0) (at : ℕ) (initializer : InitializerTree) (e : Entity) → P at → FaultsStand P (assigned_step at initializer e)
-assigned_step_stands P at initializer (entity.IntegerVariable slot) here = let e = initializer_integer at initializer in both_stand P e.faults [] (initializer_integer_stands P at initializer here) tt
-assigned_step_stands P at initializer (entity.ConditionVariable slot) here = let e = initializer_condition at initializer in
+assigned_step_stands P at initializer (entity.IntVariable slot) here = let e = initializer_integer at initializer in both_stand P e.faults [] (initializer_integer_stands P at initializer here) tt
+assigned_step_stands P at initializer (entity.BoolVariable slot) here = let e = initializer_condition at initializer in
     both_stand P e.faults [] (initializer_condition_stands P at initializer here) tt
 assigned_step_stands P at initializer entity.Error here = tt
 assigned_step_stands P at initializer _ here = (here, tt)
 
 reduced_step_stands : (P : ℕ → Type 0) (at : ℕ) (by : Reduction) (v : ValueTree) (e : Entity) → P at → FaultsStand P (reduced_step at by v e)
-reduced_step_stands P at by v (entity.IntegerVariable slot) here = let e = integer_wanted at v in both_stand P e.faults [] (as_integer_stands P at v here) tt
+reduced_step_stands P at by v (entity.IntVariable slot) here = let e = integer_wanted at v in both_stand P e.faults [] (as_integer_stands P at v here) tt
 reduced_step_stands P at by v entity.Error here = tt
 reduced_step_stands P at by v _ here = (here, tt)
 

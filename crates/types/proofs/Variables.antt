@@ -3,7 +3,7 @@ use Rattle.std.proofs.Common.{◌≡◌, refl, ap, sym, ◌∙◌, ℕ, length, 
 use Rattle.syntax.specs.Terminals.{Identifier}
 use Rattle.syntax.specs.declared.declaration.DeclaredType.{DeclaredType}
 use Rattle.syntax.specs.declared.declaration.DeclaredType.TheVariants as declared
-use Rattle.typed_tree.specs.BlockTree.{StatementKindTree, DeclareInteger, DeclareCondition, DeclareSet}
+use Rattle.typed_tree.specs.BlockTree.{StatementKindTree, DeclareInt, DeclareBool, DeclareSet}
 use Rattle.typed_tree.specs.FunctionStatementTree as step
 use Rattle.typed_tree.specs.FunctionStatementTree.{FunctionStatementTree}
 use Rattle.expression_types.specs.declared.fault.Fault.{Fault}
@@ -24,9 +24,9 @@ visible_then c name v = declared_in c name v.0 >>= λ d. sure (v.1, d)
 declare_as-steps : (c : CheckerTree) (at : ℕ) (name : Identifier) (initializer : InitializerTree) (type : DeclaredType)
     → declare_as c at name initializer type ≡ (variable_as c at initializer type >>= visible_then c name)
 declare_as-steps c at name initializer declared.Int =
-    sym (bind-bind (initializer_integer at initializer) (λ e. sure (entity.IntegerVariable (integer_slot c), DeclareInteger (length c.names) e)) (visible_then c name))
+    sym (bind-bind (initializer_integer at initializer) (λ e. sure (entity.IntVariable (integer_slot c), DeclareInt (length c.names) e)) (visible_then c name))
 declare_as-steps c at name initializer declared.Bool =
-    sym (bind-bind (initializer_condition at initializer) (λ e. sure (entity.ConditionVariable (condition_slot c), DeclareCondition (length c.names) e)) (visible_then c name))
+    sym (bind-bind (initializer_condition at initializer) (λ e. sure (entity.BoolVariable (condition_slot c), DeclareBool (length c.names) e)) (visible_then c name))
 declare_as-steps c at name initializer declared.VertexSet =
     sym (bind-bind (initializer_members at initializer) (λ s. sure (entity.SetVariable (set_slot c), DeclareSet (length c.names) s)) (visible_then c name))
 declare_as-steps c at name initializer declared.Vertex = refl
@@ -37,9 +37,9 @@ declare_as-steps c at name initializer declared.WeightedEdgeSet = refl
 declare_step_as-steps : (c : CheckerTree) (at : ℕ) (name : Identifier) (initializer : InitializerTree) (type : DeclaredType)
     → declare_step_as c at name initializer type ≡ (step_variable_as c at initializer type >>= visible_then c name)
 declare_step_as-steps c at name initializer declared.Int =
-    sym (bind-bind (initializer_integer at initializer) (λ e. sure (entity.IntegerVariable (integer_slot c), step.DeclareInteger (length c.names) e)) (visible_then c name))
+    sym (bind-bind (initializer_integer at initializer) (λ e. sure (entity.IntVariable (integer_slot c), step.DeclareInt (length c.names) e)) (visible_then c name))
 declare_step_as-steps c at name initializer declared.Bool =
-    sym (bind-bind (initializer_condition at initializer) (λ e. sure (entity.ConditionVariable (condition_slot c), step.DeclareCondition (length c.names) e)) (visible_then c name))
+    sym (bind-bind (initializer_condition at initializer) (λ e. sure (entity.BoolVariable (condition_slot c), step.DeclareBool (length c.names) e)) (visible_then c name))
 declare_step_as-steps c at name initializer declared.VertexSet = refl
 declare_step_as-steps c at name initializer declared.Vertex = refl
 declare_step_as-steps c at name initializer declared.Vector = refl

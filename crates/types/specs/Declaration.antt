@@ -51,13 +51,13 @@ literal_or_fault at sound other (Some x) = sure x
 literal_or_fault at true other None = fault_at at rule.WrongType other
 literal_or_fault at false other None = sure other
 
-abbrev pub declare_integer : DeclaredTree → ℕ → Identifier → InitializerTree → InitialTree → WithFaults DeclaredTree
-declare_integer d at name initializer initial =
-    literal_or_fault at (is_sound initializer) (pos 0) (literal_integer initial) >>= λ n. declare_name d name (entity.IntegerConstant (next_name d) n)
+abbrev pub declare_int : DeclaredTree → ℕ → Identifier → InitializerTree → InitialTree → WithFaults DeclaredTree
+declare_int d at name initializer initial =
+    literal_or_fault at (is_sound initializer) (pos 0) (literal_integer initial) >>= λ n. declare_name d name (entity.IntConstant (next_name d) n)
 
-abbrev pub declare_condition : DeclaredTree → ℕ → Identifier → InitializerTree → InitialTree → WithFaults DeclaredTree
-declare_condition d at name initializer initial =
-    literal_or_fault at (is_sound initializer) false (literal_condition initial) >>= λ b. declare_name d name (entity.ConditionConstant (next_name d) b)
+abbrev pub declare_bool : DeclaredTree → ℕ → Identifier → InitializerTree → InitialTree → WithFaults DeclaredTree
+declare_bool d at name initializer initial =
+    literal_or_fault at (is_sound initializer) false (literal_condition initial) >>= λ b. declare_name d name (entity.BoolConstant (next_name d) b)
 
 -- a constant vertex set has all vertices, and the next index of constant sets
 abbrev pub wanted : ℕ → Bool → WithFaults InitializerTree
@@ -98,8 +98,8 @@ declare_edges weights d at name initializer =
 
 -- a constant; none is a Vertex
 abbrev pub declare_constant_as : DeclaredTree → ℕ → Identifier → InitialTree → DeclaredType → InitializerTree → WithFaults DeclaredTree
-declare_constant_as d at name initial declared.Int initializer = declare_integer d at name initializer initial
-declare_constant_as d at name initial declared.Bool initializer = declare_condition d at name initializer initial
+declare_constant_as d at name initial declared.Int initializer = declare_int d at name initializer initial
+declare_constant_as d at name initial declared.Bool initializer = declare_bool d at name initializer initial
 declare_constant_as d at name initial declared.Vertex initializer = fault_at at rule.WrongType d >>= λ d. declare_name d name entity.Error
 declare_constant_as d at name initial declared.VertexSet initializer = declare_set d at name initializer
 declare_constant_as d at name initial declared.Vector initializer = declare_vector d at name initializer initial
@@ -196,7 +196,7 @@ abbrev pub result_entity : CheckerTree → FunctionKindTree → Entity
 result_entity c (MainKind fits) = entity.Error
 result_entity c (EdgeKind weighted) = entity.Error
 result_entity c VertexKind = entity.Error
-result_entity c FilterKind = entity.ConditionVariable (condition_slot c)
+result_entity c FilterKind = entity.BoolVariable (condition_slot c)
 result_entity c NoKind = entity.Error
 
 abbrev pub result_declared : CheckerTree → FunctionKindTree → Option ParameterTree → WithFaults CheckerTree

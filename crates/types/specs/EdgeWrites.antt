@@ -1,17 +1,17 @@
 -- Reductions of edge functions: what their statements write.
 use Rattle.std.specs.Prelude.{◌≡◌, ◌⊎◌, ℕ}
 use Rattle.apply_options.specs.declared.reduction.Reduction.{Reduction}
-use Rattle.typed_tree.specs.FunctionStatementTree.{FunctionStatementTree, FunctionStatementsTree, DeclareInteger, DeclareCondition, SetInteger, SetCondition}
-use Rattle.typed_tree.specs.FunctionStatementTree.{ReduceInteger, SetEntry, ReduceEntry, If, IfElse, NoStep, StepThen}
+use Rattle.typed_tree.specs.FunctionStatementTree.{FunctionStatementTree, FunctionStatementsTree, DeclareInt, DeclareBool, SetInt, SetBool}
+use Rattle.typed_tree.specs.FunctionStatementTree.{ReduceInt, SetEntry, ReduceEntry, If, IfElse, NoStep, StepThen}
 
 abbrev mutual
   -- the statement, or one in it, reduces entries of the vector so
   pub StepReduces : (vector : ℕ) → Reduction → FunctionStatementTree → Type 0
-  StepReduces vector by (DeclareInteger name e) = ⊥
-  StepReduces vector by (DeclareCondition name c) = ⊥
-  StepReduces vector by (SetInteger slot e) = ⊥
-  StepReduces vector by (SetCondition slot c) = ⊥
-  StepReduces vector by (ReduceInteger slot other e) = ⊥
+  StepReduces vector by (DeclareInt name e) = ⊥
+  StepReduces vector by (DeclareBool name c) = ⊥
+  StepReduces vector by (SetInt slot e) = ⊥
+  StepReduces vector by (SetBool slot c) = ⊥
+  StepReduces vector by (ReduceInt slot other e) = ⊥
   StepReduces vector by (SetEntry index e) = ⊥
   StepReduces vector by (ReduceEntry index other e) = (index ≡ vector) × (other ≡ by)
   StepReduces vector by (If c body) = StepsReduce vector by body
@@ -29,11 +29,11 @@ ReducesInOneWay steps = (vector : ℕ) (a b : Reduction) → StepsReduce vector 
 abbrev mutual
   -- neither the statement nor one in it writes an entry by `=`
   pub StepSetsNoEntry : FunctionStatementTree → Type 0
-  StepSetsNoEntry (DeclareInteger name e) = Unit {0}
-  StepSetsNoEntry (DeclareCondition name c) = Unit {0}
-  StepSetsNoEntry (SetInteger slot e) = Unit {0}
-  StepSetsNoEntry (SetCondition slot c) = Unit {0}
-  StepSetsNoEntry (ReduceInteger slot by e) = Unit {0}
+  StepSetsNoEntry (DeclareInt name e) = Unit {0}
+  StepSetsNoEntry (DeclareBool name c) = Unit {0}
+  StepSetsNoEntry (SetInt slot e) = Unit {0}
+  StepSetsNoEntry (SetBool slot c) = Unit {0}
+  StepSetsNoEntry (ReduceInt slot by e) = Unit {0}
   StepSetsNoEntry (SetEntry vector e) = ⊥
   StepSetsNoEntry (ReduceEntry vector by e) = Unit {0}
   StepSetsNoEntry (If c body) = SetsNoEntry body

@@ -77,10 +77,10 @@ abbrev pub filter_named : Entity → ApplyEndTree
 filter_named (entity.Edges weights) = Wrong
 filter_named (entity.Vector index) = Wrong
 filter_named (entity.ConstantSet slot) = Given (filter.Members slot)
-filter_named (entity.IntegerConstant name n) = Wrong
-filter_named (entity.ConditionConstant name b) = Wrong
-filter_named (entity.IntegerVariable slot) = Wrong
-filter_named (entity.ConditionVariable slot) = Wrong
+filter_named (entity.IntConstant name n) = Wrong
+filter_named (entity.BoolConstant name b) = Wrong
+filter_named (entity.IntVariable slot) = Wrong
+filter_named (entity.BoolVariable slot) = Wrong
 filter_named (entity.SetVariable slot) = Given (filter.Members slot)
 filter_named (entity.LoopVariable slot) = Wrong
 filter_named (entity.Parameter p) = Wrong
@@ -116,15 +116,15 @@ given_filter ErrorEnd = None
 abbrev pub ends_given : ApplyEndTree → ApplyEndTree → ApplyEnds
 ends_given a b = record { from = given_filter a; to = given_filter b }
 
--- what a name stands for that wants one kind of thing
+-- what a name means that wants one kind of thing
 abbrev pub names_error : Entity → Bool
 names_error (entity.Edges weights) = false
 names_error (entity.Vector index) = false
 names_error (entity.ConstantSet slot) = false
-names_error (entity.IntegerConstant name n) = false
-names_error (entity.ConditionConstant name b) = false
-names_error (entity.IntegerVariable slot) = false
-names_error (entity.ConditionVariable slot) = false
+names_error (entity.IntConstant name n) = false
+names_error (entity.BoolConstant name b) = false
+names_error (entity.IntVariable slot) = false
+names_error (entity.BoolVariable slot) = false
 names_error (entity.SetVariable slot) = false
 names_error (entity.LoopVariable slot) = false
 names_error (entity.Parameter p) = false
@@ -139,10 +139,10 @@ abbrev pub is_edges : Entity → Bool
 is_edges (entity.Edges weights) = true
 is_edges (entity.Vector index) = false
 is_edges (entity.ConstantSet slot) = false
-is_edges (entity.IntegerConstant name n) = false
-is_edges (entity.ConditionConstant name b) = false
-is_edges (entity.IntegerVariable slot) = false
-is_edges (entity.ConditionVariable slot) = false
+is_edges (entity.IntConstant name n) = false
+is_edges (entity.BoolConstant name b) = false
+is_edges (entity.IntVariable slot) = false
+is_edges (entity.BoolVariable slot) = false
 is_edges (entity.SetVariable slot) = false
 is_edges (entity.LoopVariable slot) = false
 is_edges (entity.Parameter p) = false
@@ -157,10 +157,10 @@ abbrev pub edge_function : Entity → Option ℕ
 edge_function (entity.Edges weights) = None
 edge_function (entity.Vector index) = None
 edge_function (entity.ConstantSet slot) = None
-edge_function (entity.IntegerConstant name n) = None
-edge_function (entity.ConditionConstant name b) = None
-edge_function (entity.IntegerVariable slot) = None
-edge_function (entity.ConditionVariable slot) = None
+edge_function (entity.IntConstant name n) = None
+edge_function (entity.BoolConstant name b) = None
+edge_function (entity.IntVariable slot) = None
+edge_function (entity.BoolVariable slot) = None
 edge_function (entity.SetVariable slot) = None
 edge_function (entity.LoopVariable slot) = None
 edge_function (entity.Parameter p) = None
@@ -176,10 +176,10 @@ abbrev pub takes_edge_weight : Entity → Bool
 takes_edge_weight (entity.Edges weights) = false
 takes_edge_weight (entity.Vector index) = false
 takes_edge_weight (entity.ConstantSet slot) = false
-takes_edge_weight (entity.IntegerConstant name n) = false
-takes_edge_weight (entity.ConditionConstant name b) = false
-takes_edge_weight (entity.IntegerVariable slot) = false
-takes_edge_weight (entity.ConditionVariable slot) = false
+takes_edge_weight (entity.IntConstant name n) = false
+takes_edge_weight (entity.BoolConstant name b) = false
+takes_edge_weight (entity.IntVariable slot) = false
+takes_edge_weight (entity.BoolVariable slot) = false
 takes_edge_weight (entity.SetVariable slot) = false
 takes_edge_weight (entity.LoopVariable slot) = false
 takes_edge_weight (entity.Parameter p) = false
@@ -195,10 +195,10 @@ abbrev pub lacks_weights : Entity → Entity → Bool
 lacks_weights (entity.Edges weights) f = not weights && takes_edge_weight f
 lacks_weights (entity.Vector index) f = false
 lacks_weights (entity.ConstantSet slot) f = false
-lacks_weights (entity.IntegerConstant name n) f = false
-lacks_weights (entity.ConditionConstant name b) f = false
-lacks_weights (entity.IntegerVariable slot) f = false
-lacks_weights (entity.ConditionVariable slot) f = false
+lacks_weights (entity.IntConstant name n) f = false
+lacks_weights (entity.BoolConstant name b) f = false
+lacks_weights (entity.IntVariable slot) f = false
+lacks_weights (entity.BoolVariable slot) f = false
 lacks_weights (entity.SetVariable slot) f = false
 lacks_weights (entity.LoopVariable slot) f = false
 lacks_weights (entity.Parameter p) f = false
@@ -213,10 +213,10 @@ abbrev pub vertex_function : Entity → Option ℕ
 vertex_function (entity.Edges weights) = None
 vertex_function (entity.Vector index) = None
 vertex_function (entity.ConstantSet slot) = None
-vertex_function (entity.IntegerConstant name n) = None
-vertex_function (entity.ConditionConstant name b) = None
-vertex_function (entity.IntegerVariable slot) = None
-vertex_function (entity.ConditionVariable slot) = None
+vertex_function (entity.IntConstant name n) = None
+vertex_function (entity.BoolConstant name b) = None
+vertex_function (entity.IntVariable slot) = None
+vertex_function (entity.BoolVariable slot) = None
 vertex_function (entity.SetVariable slot) = None
 vertex_function (entity.LoopVariable slot) = None
 vertex_function (entity.Parameter p) = None
@@ -231,10 +231,10 @@ abbrev pub filter_function : Entity → Option ℕ
 filter_function (entity.Edges weights) = None
 filter_function (entity.Vector index) = None
 filter_function (entity.ConstantSet slot) = None
-filter_function (entity.IntegerConstant name n) = None
-filter_function (entity.ConditionConstant name b) = None
-filter_function (entity.IntegerVariable slot) = None
-filter_function (entity.ConditionVariable slot) = None
+filter_function (entity.IntConstant name n) = None
+filter_function (entity.BoolConstant name b) = None
+filter_function (entity.IntVariable slot) = None
+filter_function (entity.BoolVariable slot) = None
 filter_function (entity.SetVariable slot) = None
 filter_function (entity.LoopVariable slot) = None
 filter_function (entity.Parameter p) = None
@@ -249,10 +249,10 @@ abbrev pub vector_of : Entity → Option ℕ
 vector_of (entity.Edges weights) = None
 vector_of (entity.Vector index) = Some index
 vector_of (entity.ConstantSet slot) = None
-vector_of (entity.IntegerConstant name n) = None
-vector_of (entity.ConditionConstant name b) = None
-vector_of (entity.IntegerVariable slot) = None
-vector_of (entity.ConditionVariable slot) = None
+vector_of (entity.IntConstant name n) = None
+vector_of (entity.BoolConstant name b) = None
+vector_of (entity.IntVariable slot) = None
+vector_of (entity.BoolVariable slot) = None
 vector_of (entity.SetVariable slot) = None
 vector_of (entity.LoopVariable slot) = None
 vector_of (entity.Parameter p) = None
@@ -306,7 +306,7 @@ loaded at (pos (suc zero)) = sure Loaded
 loaded at (pos (suc (suc n))) = fault_at at rule.WrongType ErrorInitializer
 loaded at (negsuc n) = fault_at at rule.WrongType ErrorInitializer
 
--- what a value is that stands in the statement or declaration at this offset
+-- what a value is that is in the statement or declaration at this offset
 abbrev pub initializer_of : CheckerTree → ℕ → InitialTree → WithFaults InitializerTree
 initializer_of c at (NewSet size) = new_set at size
 initializer_of c at (Load argument) = loaded at argument

@@ -32,8 +32,8 @@ set_count (Constant at p initial ∷ others) = counting p.declared (set_count ot
 set_count (Function at name parameters result body ∷ others) = set_count others
 
 -- before the first declaration, in a program with n constant sets
-abbrev pub opening : ℕ → DeclaredTree
-opening sets = record {
+abbrev pub no_declarations : ℕ → DeclaredTree
+no_declarations sets = record {
   checker = record { scope = empty_scope sets; names = []; labels = []; label_names = []; statements = 0; writes = []; written = [] };
   edges = None;
   vectors = [];
@@ -78,15 +78,15 @@ program_tree_of d main schedule = record {
 -- the program that a source is, in a text of this length, with all its faults
 abbrev pub program_of : SourceTree → ℕ → WithFaults ProgramTree
 program_of source length =
-    declarations_typed (opening (set_count source.declarations)) source.declarations >>= λ d. main_of length d.main >>= λ main.
+    declarations_typed (no_declarations (set_count source.declarations)) source.declarations >>= λ d. main_of length d.main >>= λ main.
     sure (program_tree_of d main (schedule_calls source.schedule))
 
--- a source has no fault, and is this program; or of all its faults this one is told
+-- a source has no fault, and is this program; or of all its faults this one is reported
 abbrev pub Checks : SourceTree → ℕ → Result ProgramTree Fault → Type 0
 Checks source length (Ok p) = ((program_of source length).faults ≡ []) × ((program_of source length).value ≡ p)
 Checks source length (Err fault) = least_of None (program_of source length).faults ≡ Some fault
 
--- the answer is what checking gives; nothing is said where memory runs out
+-- the answer is what checking gives; nothing is said if memory runs out
 abbrev pub Answers : SourceTree → ℕ → Result Typed CheckError → Type 0
 Answers source length (Ok p) = Checks source length (Ok (program_tree p))
 Answers source length (Err (Faulty fault)) = Checks source length (Err fault)

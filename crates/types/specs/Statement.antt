@@ -1,4 +1,4 @@
--- Typing of statements of main without blocks. Where one is faulty a harmless one stands in its place.
+-- Typing of statements of main without blocks. If one is faulty, a harmless one is in its place.
 use Rattle.std.specs.Prelude.{ℕ, Bool, ◌||◌, if◌then◌else◌, length, Option, Some, None, is_some}
 use Rattle.syntax.specs.Terminals.{Identifier}
 use Rattle.syntax.specs.SourceTrees.{ExpressionTree, EndsTree, InitialTree}
@@ -7,8 +7,8 @@ use Rattle.syntax.specs.declared.declaration.DeclaredType.TheVariants as declare
 use Rattle.apply_options.specs.declared.reduction.Reduction.{Reduction}
 use Rattle.typed_tree.specs.declared.expression.VarRef.{VarRef}
 use Rattle.typed_tree.specs.IntExpressionTree.{IntExpressionTree, Parameter}
-use Rattle.typed_tree.specs.BlockTree.{StatementKindTree, DeclareInteger, DeclareCondition, SetInteger, SetCondition, ReduceInteger, SetEntry, ReduceEntry}
-use Rattle.typed_tree.specs.BlockTree.{DeclareSet, AssignSet, AddVertex, PrintInteger, PrintCondition, ApplyVertex, ApplyEdges}
+use Rattle.typed_tree.specs.BlockTree.{StatementKindTree, DeclareInt, DeclareBool, SetInt, SetBool, ReduceInt, SetEntry, ReduceEntry}
+use Rattle.typed_tree.specs.BlockTree.{DeclareSet, AssignSet, AddVertex, PrintInt, PrintBool, ApplyVertex, ApplyEdges}
 use Rattle.expression_types.specs.declared.fault.TypeRule.TheVariants as rule
 use Rattle.expression_types.specs.declared.scope.Entity.{Entity}
 use Rattle.expression_types.specs.declared.scope.Entity.TheVariants as entity
@@ -20,18 +20,18 @@ use Rattle.types.specs.Checker.{CheckerTree, integer_slot, condition_slot, set_s
 use Rattle.types.specs.Initial.{InitializerTree, ApplyEndTree, initializer_of, apply_end_of, is_wrong, is_error_end, ends_given, names_error, is_edges}
 use Rattle.types.specs.Initial.{lacks_weights, edge_function, vertex_function, initializer_integer, initializer_condition, initializer_members}
 
--- what stands in place of a faulty statement
+-- what is in place of a faulty statement
 abbrev pub no_action : StatementKindTree
-no_action = PrintInteger some_integer
+no_action = PrintInt some_integer
 
 -- A declaration of a variable, and what is known after it. The name is not visible in its first value.
 abbrev pub declare_as : CheckerTree → ℕ → Identifier → InitializerTree → DeclaredType → WithFaults (StatementKindTree × CheckerTree)
 declare_as c at name initializer declared.Int =
-    initializer_integer at initializer >>= λ e. declared_in c name (entity.IntegerVariable (integer_slot c)) >>= λ d. sure
-    (DeclareInteger (length c.names) e, d)
+    initializer_integer at initializer >>= λ e. declared_in c name (entity.IntVariable (integer_slot c)) >>= λ d. sure
+    (DeclareInt (length c.names) e, d)
 declare_as c at name initializer declared.Bool =
-    initializer_condition at initializer >>= λ e. declared_in c name (entity.ConditionVariable (condition_slot c)) >>= λ d. sure
-    (DeclareCondition (length c.names) e, d)
+    initializer_condition at initializer >>= λ e. declared_in c name (entity.BoolVariable (condition_slot c)) >>= λ d. sure
+    (DeclareBool (length c.names) e, d)
 declare_as c at name initializer declared.VertexSet =
     initializer_members at initializer >>= λ s. declared_in c name (entity.SetVariable (set_slot c)) >>= λ d. sure (DeclareSet (length c.names) s, d)
 declare_as c at name initializer declared.Vertex = fault_at at rule.WrongType no_action >>= λ a. declared_in c name entity.Error >>= λ d. sure (a, d)
@@ -47,10 +47,10 @@ abbrev pub assigned : ℕ → InitializerTree → Entity → WithFaults Statemen
 assigned at initializer (entity.Edges weights) = fault_at at rule.WrongType no_action
 assigned at initializer (entity.Vector index) = fault_at at rule.WrongType no_action
 assigned at initializer (entity.ConstantSet slot) = fault_at at rule.WrongType no_action
-assigned at initializer (entity.IntegerConstant name n) = fault_at at rule.WrongType no_action
-assigned at initializer (entity.ConditionConstant name b) = fault_at at rule.WrongType no_action
-assigned at initializer (entity.IntegerVariable slot) = initializer_integer at initializer >>= λ e. sure (SetInteger slot e)
-assigned at initializer (entity.ConditionVariable slot) = initializer_condition at initializer >>= λ e. sure (SetCondition slot e)
+assigned at initializer (entity.IntConstant name n) = fault_at at rule.WrongType no_action
+assigned at initializer (entity.BoolConstant name b) = fault_at at rule.WrongType no_action
+assigned at initializer (entity.IntVariable slot) = initializer_integer at initializer >>= λ e. sure (SetInt slot e)
+assigned at initializer (entity.BoolVariable slot) = initializer_condition at initializer >>= λ e. sure (SetBool slot e)
 assigned at initializer (entity.SetVariable slot) = initializer_members at initializer >>= λ s. sure (AssignSet slot s)
 assigned at initializer (entity.LoopVariable slot) = fault_at at rule.WrongType no_action
 assigned at initializer (entity.Parameter p) = fault_at at rule.WrongType no_action
@@ -69,10 +69,10 @@ abbrev pub reduced : ℕ → Reduction → ValueTree → Entity → WithFaults S
 reduced at by v (entity.Edges weights) = fault_at at rule.WrongType no_action
 reduced at by v (entity.Vector index) = fault_at at rule.WrongType no_action
 reduced at by v (entity.ConstantSet slot) = fault_at at rule.WrongType no_action
-reduced at by v (entity.IntegerConstant name n) = fault_at at rule.WrongType no_action
-reduced at by v (entity.ConditionConstant name b) = fault_at at rule.WrongType no_action
-reduced at by v (entity.IntegerVariable slot) = integer_wanted at v >>= λ e. sure (ReduceInteger slot by e)
-reduced at by v (entity.ConditionVariable slot) = fault_at at rule.WrongType no_action
+reduced at by v (entity.IntConstant name n) = fault_at at rule.WrongType no_action
+reduced at by v (entity.BoolConstant name b) = fault_at at rule.WrongType no_action
+reduced at by v (entity.IntVariable slot) = integer_wanted at v >>= λ e. sure (ReduceInt slot by e)
+reduced at by v (entity.BoolVariable slot) = fault_at at rule.WrongType no_action
 reduced at by v (entity.SetVariable slot) = fault_at at rule.WrongType no_action
 reduced at by v (entity.LoopVariable slot) = fault_at at rule.WrongType no_action
 reduced at by v (entity.Parameter p) = fault_at at rule.WrongType no_action
@@ -112,10 +112,10 @@ abbrev pub added_to_set : ℕ → ValueTree → Entity → WithFaults StatementK
 added_to_set at v (entity.Edges weights) = fault_at at rule.WrongType no_action
 added_to_set at v (entity.Vector index) = fault_at at rule.WrongType no_action
 added_to_set at v (entity.ConstantSet slot) = fault_at at rule.WrongType no_action
-added_to_set at v (entity.IntegerConstant name n) = fault_at at rule.WrongType no_action
-added_to_set at v (entity.ConditionConstant name b) = fault_at at rule.WrongType no_action
-added_to_set at v (entity.IntegerVariable slot) = fault_at at rule.WrongType no_action
-added_to_set at v (entity.ConditionVariable slot) = fault_at at rule.WrongType no_action
+added_to_set at v (entity.IntConstant name n) = fault_at at rule.WrongType no_action
+added_to_set at v (entity.BoolConstant name b) = fault_at at rule.WrongType no_action
+added_to_set at v (entity.IntVariable slot) = fault_at at rule.WrongType no_action
+added_to_set at v (entity.BoolVariable slot) = fault_at at rule.WrongType no_action
 added_to_set at v (entity.SetVariable slot) = integer_wanted at v >>= λ e. sure (AddVertex slot e)
 added_to_set at v (entity.LoopVariable slot) = fault_at at rule.WrongType no_action
 added_to_set at v (entity.Parameter p) = fault_at at rule.WrongType no_action
@@ -131,9 +131,9 @@ add_vertex scope at set e = used_name scope set >>= λ s. value_of scope at e >>
 
 -- a number or a truth value is printed
 abbrev pub printed : ℕ → ValueTree → WithFaults StatementKindTree
-printed at (Integer e) = sure (PrintInteger e)
-printed at (Condition c) = sure (PrintCondition c)
-printed at (Vertex p) = sure (PrintInteger (Parameter p))
+printed at (Integer e) = sure (PrintInt e)
+printed at (Condition c) = sure (PrintBool c)
+printed at (Vertex p) = sure (PrintInt (Parameter p))
 printed at (Set slot) = fault_at at rule.WrongType no_action
 printed at ErrorValue = sure no_action
 

@@ -1,4 +1,4 @@
--- Typing of statements of functions, in the order of the text. Where one is faulty, or no function may hold it, a harmless one stands in its place.
+-- Typing of statements of functions, in the order of the text. If one is faulty, or no function may hold it, a harmless one is in its place.
 use Rattle.std.specs.Prelude.{[], ℕ, Bool, true, false, nat_eq, List, ◌∷◌, ◌++◌, length, Option, Some, None}
 use Rattle.std.specs.Map.{lookup}
 use Rattle.apply_options.specs.declared.reduction.Reduction.{Reduction}
@@ -11,8 +11,8 @@ use Rattle.syntax.specs.SourceTrees as source
 use Rattle.typed_tree.specs.declared.expression.Endpoint.{Endpoint}
 use Rattle.typed_tree.specs.BoolExpressionTree.{Literal}
 use Rattle.typed_tree.specs.IntExpressionTree.{IntExpressionTree}
-use Rattle.typed_tree.specs.FunctionStatementTree.{FunctionStatementTree, FunctionStatementsTree, DeclareInteger, DeclareCondition, SetInteger, SetCondition}
-use Rattle.typed_tree.specs.FunctionStatementTree.{ReduceInteger, SetEntry, ReduceEntry, If, IfElse, NoStep, StepThen}
+use Rattle.typed_tree.specs.FunctionStatementTree.{FunctionStatementTree, FunctionStatementsTree, DeclareInt, DeclareBool, SetInt, SetBool}
+use Rattle.typed_tree.specs.FunctionStatementTree.{ReduceInt, SetEntry, ReduceEntry, If, IfElse, NoStep, StepThen}
 use Rattle.typed_tree.specs.declared.expression.Endpoint.TheVariants as endpoint
 use Rattle.expression_types.specs.declared.scope.Entity.{Entity}
 use Rattle.expression_types.specs.declared.scope.Inside.{Inside}
@@ -26,18 +26,18 @@ use Rattle.expression_types.specs.declared.scope.Inside.TheVariants as inside
 use Rattle.types.specs.Checker.{CheckerTree, integer_slot, condition_slot, in_scope, declared_in, with_label, integer_wanted, integer_in, condition_in}
 use Rattle.types.specs.Initial.{InitializerTree, apply_end_of, initializer_of, initializer_integer, initializer_condition}
 
--- what stands in place of a faulty statement
+-- what is in place of a faulty statement
 abbrev pub no_step : FunctionStatementTree
 no_step = If (Literal false) NoStep
 
 -- a declaration of a variable, and what is known after it
 abbrev pub declare_step_as : CheckerTree → ℕ → Identifier → InitializerTree → DeclaredType → WithFaults (FunctionStatementTree × CheckerTree)
 declare_step_as c at name initializer declared.Int =
-    initializer_integer at initializer >>= λ e. declared_in c name (entity.IntegerVariable (integer_slot c)) >>= λ d. sure
-    (DeclareInteger (length c.names) e, d)
+    initializer_integer at initializer >>= λ e. declared_in c name (entity.IntVariable (integer_slot c)) >>= λ d. sure
+    (DeclareInt (length c.names) e, d)
 declare_step_as c at name initializer declared.Bool =
-    initializer_condition at initializer >>= λ e. declared_in c name (entity.ConditionVariable (condition_slot c)) >>= λ d. sure
-    (DeclareCondition (length c.names) e, d)
+    initializer_condition at initializer >>= λ e. declared_in c name (entity.BoolVariable (condition_slot c)) >>= λ d. sure
+    (DeclareBool (length c.names) e, d)
 declare_step_as c at name initializer declared.VertexSet = fault_at at rule.WrongType no_step >>= λ a. declared_in c name entity.Error >>= λ d. sure (a, d)
 declare_step_as c at name initializer declared.Vertex = fault_at at rule.WrongType no_step >>= λ a. declared_in c name entity.Error >>= λ d. sure (a, d)
 declare_step_as c at name initializer declared.Vector = fault_at at rule.WrongType no_step >>= λ a. declared_in c name entity.Error >>= λ d. sure (a, d)
@@ -53,10 +53,10 @@ abbrev pub assigned_step : ℕ → InitializerTree → Entity → WithFaults Fun
 assigned_step at initializer (entity.Edges weights) = fault_at at rule.WrongType no_step
 assigned_step at initializer (entity.Vector index) = fault_at at rule.WrongType no_step
 assigned_step at initializer (entity.ConstantSet slot) = fault_at at rule.WrongType no_step
-assigned_step at initializer (entity.IntegerConstant name n) = fault_at at rule.WrongType no_step
-assigned_step at initializer (entity.ConditionConstant name b) = fault_at at rule.WrongType no_step
-assigned_step at initializer (entity.IntegerVariable slot) = initializer_integer at initializer >>= λ e. sure (SetInteger slot e)
-assigned_step at initializer (entity.ConditionVariable slot) = initializer_condition at initializer >>= λ e. sure (SetCondition slot e)
+assigned_step at initializer (entity.IntConstant name n) = fault_at at rule.WrongType no_step
+assigned_step at initializer (entity.BoolConstant name b) = fault_at at rule.WrongType no_step
+assigned_step at initializer (entity.IntVariable slot) = initializer_integer at initializer >>= λ e. sure (SetInt slot e)
+assigned_step at initializer (entity.BoolVariable slot) = initializer_condition at initializer >>= λ e. sure (SetBool slot e)
 assigned_step at initializer (entity.SetVariable slot) = fault_at at rule.WrongType no_step
 assigned_step at initializer (entity.LoopVariable slot) = fault_at at rule.WrongType no_step
 assigned_step at initializer (entity.Parameter p) = fault_at at rule.WrongType no_step
@@ -74,10 +74,10 @@ abbrev pub reduced_step : ℕ → Reduction → ValueTree → Entity → WithFau
 reduced_step at by v (entity.Edges weights) = fault_at at rule.WrongType no_step
 reduced_step at by v (entity.Vector index) = fault_at at rule.WrongType no_step
 reduced_step at by v (entity.ConstantSet slot) = fault_at at rule.WrongType no_step
-reduced_step at by v (entity.IntegerConstant name n) = fault_at at rule.WrongType no_step
-reduced_step at by v (entity.ConditionConstant name b) = fault_at at rule.WrongType no_step
-reduced_step at by v (entity.IntegerVariable slot) = integer_wanted at v >>= λ e. sure (ReduceInteger slot by e)
-reduced_step at by v (entity.ConditionVariable slot) = fault_at at rule.WrongType no_step
+reduced_step at by v (entity.IntConstant name n) = fault_at at rule.WrongType no_step
+reduced_step at by v (entity.BoolConstant name b) = fault_at at rule.WrongType no_step
+reduced_step at by v (entity.IntVariable slot) = integer_wanted at v >>= λ e. sure (ReduceInt slot by e)
+reduced_step at by v (entity.BoolVariable slot) = fault_at at rule.WrongType no_step
 reduced_step at by v (entity.SetVariable slot) = fault_at at rule.WrongType no_step
 reduced_step at by v (entity.LoopVariable slot) = fault_at at rule.WrongType no_step
 reduced_step at by v (entity.Parameter p) = fault_at at rule.WrongType no_step

@@ -9,7 +9,7 @@ ghost use Rattle.expression_types.specs.ScopeTree.{KeepsNames};
 ghost use Rattle.expression_types.specs.Faults.{earlier, ReportsFaults, outcome};
 ghost use Rattle.types.specs.Initial.{ErrorInitializer, is_sound};
 ghost use Rattle.types.specs.inside.Checker.{checker_of};
-ghost use Rattle.types.specs.Declaration.{declaration_typed, declarations_typed, declare_condition, declare_constant, declare_constant_as, declare_edges, declare_integer, declare_name, declare_set, declare_vector, edge_function_declared, function_declared, has_all, begins, inside_of, literal_or_fault, kind_fits, loads, main_declared, opened, only_edges, parameter, parameters_declared, result_declared, result_entity, steps_declared, takes_weight as weight_taken, with_main_block};
+ghost use Rattle.types.specs.Declaration.{declaration_typed, declarations_typed, declare_bool, declare_constant, declare_constant_as, declare_edges, declare_int, declare_name, declare_set, declare_vector, edge_function_declared, function_declared, has_all, begins, inside_of, literal_or_fault, kind_fits, loads, main_declared, opened, only_edges, parameter, parameters_declared, result_declared, result_entity, steps_declared, takes_weight as weight_taken, with_main_block};
 ghost use Rattle.types.specs.inside.Declaration.{declared_of};
 ghost use Rattle.types.specs.inside.Initializer.{initializer_tree};
 ghost use Rattle.types.specs.inside.FunctionKind.{function_kind_tree};
@@ -269,7 +269,7 @@ fn integer(
     first_fault: &mut Option<Fault>,
 ) -> Result<(), AllocError>
     ensures { ReportsFaults (λ _. declared_of declared.new) first_fault.old first_fault.new result
-        (declare_integer (declared_of declared.old) written.entry.at written.entry.constant.now.name (initializer_tree initializer)
+        (declare_int (declared_of declared.old) written.entry.at written.entry.constant.now.name (initializer_tree initializer)
         (initial_tree written.entry.initial.now)) }
 {
     let value = literal(written.at, initializer, written.initial, first_fault);
@@ -277,7 +277,7 @@ fn integer(
     name_is(
         alloc,
         &written.constant.name,
-        Entity::IntegerConstant(index, value),
+        Entity::IntConstant(index, value),
         declared,
         first_fault,
     )
@@ -310,7 +310,7 @@ fn condition(
     first_fault: &mut Option<Fault>,
 ) -> Result<(), AllocError>
     ensures { ReportsFaults (λ _. declared_of declared.new) first_fault.old first_fault.new result
-        (declare_condition (declared_of declared.old) written.entry.at written.entry.constant.now.name (initializer_tree initializer)
+        (declare_bool (declared_of declared.old) written.entry.at written.entry.constant.now.name (initializer_tree initializer)
         (initial_tree written.entry.initial.now)) }
 {
     let value = truth_literal(written.at, initializer, written.initial, first_fault);
@@ -318,7 +318,7 @@ fn condition(
     name_is(
         alloc,
         &written.constant.name,
-        Entity::ConditionConstant(index, value),
+        Entity::BoolConstant(index, value),
         declared,
         first_fault,
     )
@@ -560,7 +560,7 @@ fn entity_of_result(checker: &Checker, kind: FunctionKind) -> Entity
     ensures { result ≡ result_entity (checker_of checker.now) (function_kind_tree kind) }
 {
     match kind {
-        FunctionKind::Filter => Entity::ConditionVariable(checker.condition_slot()),
+        FunctionKind::Filter => Entity::BoolVariable(checker.condition_slot()),
         FunctionKind::Main(_)
         | FunctionKind::Edge(_)
         | FunctionKind::Vertex

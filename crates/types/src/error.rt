@@ -27,7 +27,7 @@ impl CheckError {
         }
     }
 
-    /// The offset of the fault, in bytes, or `None` where memory ran out.
+    /// The offset of the fault, in bytes, or `None` if memory ran out.
     pub fn at(self) -> Option<usize>
         ensures { result ≡ offset_of self }
     {

@@ -25,7 +25,7 @@ use std::alloc::{AllocError, Global};
 use syntax::{DeclaredType, Ends, Expression, Initial, Name, Parameter};
 use typed_tree::{BoolExpression, Endpoint, FunctionStatement, IntExpression};
 
-/// What stands in place of a faulty statement.
+/// What is in place of a faulty statement.
 fn nothing(alloc: Global) -> FunctionStatement
     ensures { function_statement_tree result ≡ no_step }
 {
@@ -107,14 +107,14 @@ fn declaration(
         DeclaredType::Int => {
             let value = initializer.into_integer(at, first_fault);
             let slot = checker.integer_slot();
-            let step = FunctionStatement::DeclareInteger(slot.name, value);
-            (Entity::IntegerVariable(slot), step)
+            let step = FunctionStatement::DeclareInt(slot.name, value);
+            (Entity::IntVariable(slot), step)
         }
         DeclaredType::Bool => {
             let value = initializer.into_condition(at, first_fault);
             let slot = checker.condition_slot();
-            let step = FunctionStatement::DeclareCondition(slot.name, value);
-            (Entity::ConditionVariable(slot), step)
+            let step = FunctionStatement::DeclareBool(slot.name, value);
+            (Entity::BoolVariable(slot), step)
         }
         DeclaredType::VertexSet
         | DeclaredType::Vertex
@@ -151,12 +151,12 @@ fn assign_initializer(
     ensures { outcome first_fault.old (assigned_step at (initializer_tree initializer) entity) ≡ (function_statement_tree result, first_fault.new) }
 {
     match entity {
-        Entity::IntegerVariable(slot) => FunctionStatement::SetInteger(
+        Entity::IntVariable(slot) => FunctionStatement::SetInt(
             slot,
             initializer.into_integer(at, first_fault),
         ),
-        Entity::ConditionVariable(slot) => {
-            FunctionStatement::SetCondition(slot, initializer.into_condition(at, first_fault))
+        Entity::BoolVariable(slot) => {
+            FunctionStatement::SetBool(slot, initializer.into_condition(at, first_fault))
         }
         Entity::Error => nothing(alloc),
         _ => wrong(at, alloc, first_fault),
@@ -191,8 +191,8 @@ fn reduce_value(
     ensures { outcome first_fault.old (reduced_step at by (value_tree value) entity) ≡ (function_statement_tree result, first_fault.new) }
 {
     match entity {
-        Entity::IntegerVariable(slot) => {
-            FunctionStatement::ReduceInteger(slot, by, integer_of(at, value, first_fault))
+        Entity::IntVariable(slot) => {
+            FunctionStatement::ReduceInt(slot, by, integer_of(at, value, first_fault))
         }
         Entity::Error => nothing(alloc),
         _ => wrong(at, alloc, first_fault),

@@ -44,7 +44,7 @@ impl Drop for Initializer {
     }
 }
 
-/// What the names of an apply stand for.
+/// What the names of an apply mean.
 #[derive(Clone, Copy)]
 pub(crate) struct NamedApply {
     /// What it is on: the edges, or a vertex set.
@@ -201,7 +201,7 @@ pub(crate) fn ends_of(from: ApplyEnd, to: ApplyEnd) -> ApplyEnds
     }
 }
 
-/// What the names of an apply stand for: of its target, its ends and its function, in the order of the text.
+/// What the names of an apply mean: of its target, its ends and its function, in the order of the text.
 pub(crate) fn read_apply(
     scope: &Scope,
     target: &Name,
@@ -323,7 +323,7 @@ fn wrong(at: usize, first_fault: &mut Option<Fault>) -> Initializer
     Initializer::Error
 }
 
-/// What a value is that stands in the statement or declaration whose first token is at this offset.
+/// What a value is that is in the statement or declaration whose first token is at this offset.
 pub(crate) fn read_initial(
     alloc: Global,
     checker: &Checker,

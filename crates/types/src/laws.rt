@@ -7,8 +7,8 @@ ghost use Rattle.syntax.specs.SourceTrees.{SourceTree};
 ghost use Rattle.types.specs.EdgeWrites.{ReducesInOneWay, SetsNoEntry};
 ghost use Rattle.types.specs.Program.{program_of};
 
-/// The law that each fault of a source stands where a name or a label does, or a keyword that begins a declaration or a
-/// statement, or at the length of the text; and that each call of a schedule stands where its keyword does.
+/// The law that each fault of a source is where a name or a label does, or a keyword that begins a declaration or a
+/// statement, or at the length of the text; and that each call of a schedule is where its keyword does.
 pub fn faults_stand_in_the_source()
     ensures faults { (source : SourceTree) (length : ℕ) → AllByRecursion (λ f. IsOffsetIn (source_terminals source) f.at ⊎ (f.at ≡ length))
         (program_of source length).faults }

@@ -6,7 +6,7 @@ ghost use Rattle.typed_tree.specs.BlockTree.{block_tree};
 ghost use Rattle.typed_tree.specs.ProgramTree.{program_tree};
 ghost use Rattle.expression_types.specs.Faults.{ReportsFaults, outcome};
 ghost use Rattle.types.specs.inside.Declaration.{declared_of};
-ghost use Rattle.types.specs.Program.{Answers, main_of, opening, program_of, set_count};
+ghost use Rattle.types.specs.Program.{Answers, main_of, no_declarations, program_of, set_count};
 
 use crate::checker::Checker;
 use crate::declaration::{Declared, declare_all};
@@ -21,7 +21,7 @@ use typed_tree::{MainStatement, Typed};
 /// The program that a source is, with all names resolved.
 ///
 /// The error is `Faulty` where the source breaks a rule of types: of all faults the one with the least offset,
-/// and of several there the one with the least number; and `NoMemory` where memory runs out. The time is in
+/// and of several there the one with the least number; and `NoMemory` if memory runs out. The time is in
 /// proportion to the source.
 pub fn check(alloc: Global, source: &Source) -> Result<Typed, CheckError>
     ensures { Answers (source_tree source.now) source.now.length result }
@@ -97,7 +97,7 @@ fn sets_of(declaration: &Declaration) -> usize
 /// Before the first declaration of a program with n constant vertex sets.
 fn empty(alloc: Global, sets: usize) -> Declared
     requires { sets ≤ 2 ^ 63 }
-    ensures { declared_of result ≡ opening sets }
+    ensures { declared_of result ≡ no_declarations sets }
 {
     Declared {
         checker: Checker {

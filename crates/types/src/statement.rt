@@ -1,4 +1,4 @@
-//! Typing of statements of `main` that have no blocks. Where one is faulty a harmless one stands in its place.
+//! Typing of statements of `main` that have no blocks. If one is faulty, a harmless one is in its place.
 ghost use Rattle.std.specs.Prelude.{◌≡◌, Some, OnOk};
 ghost use Rattle.std.specs.Option.{option_map};
 ghost use Rattle.syntax.specs.SourceViews.{ends_tree, initial_tree};
@@ -29,11 +29,11 @@ use std::alloc::{AllocError, Global};
 use syntax::{DeclaredType, Ends, Expression, Initial, Name, Parameter};
 use typed_tree::{IntExpression, StatementKind, VarRef};
 
-/// What stands in place of a faulty statement.
+/// What is in place of a faulty statement.
 fn nothing() -> StatementKind
     ensures { statement_kind_tree result ≡ no_action }
 {
-    StatementKind::PrintInteger(IntExpression::Number(0))
+    StatementKind::PrintInt(IntExpression::Number(0))
 }
 
 /// A statement that breaks a rule of types.
@@ -94,14 +94,14 @@ fn declaration(
         DeclaredType::Int => {
             let value = initializer.into_integer(at, first_fault);
             let slot = checker.integer_slot();
-            let action = StatementKind::DeclareInteger(slot.name, value);
-            (Entity::IntegerVariable(slot), action)
+            let action = StatementKind::DeclareInt(slot.name, value);
+            (Entity::IntVariable(slot), action)
         }
         DeclaredType::Bool => {
             let value = initializer.into_condition(at, first_fault);
             let slot = checker.condition_slot();
-            let action = StatementKind::DeclareCondition(slot.name, value);
-            (Entity::ConditionVariable(slot), action)
+            let action = StatementKind::DeclareBool(slot.name, value);
+            (Entity::BoolVariable(slot), action)
         }
         DeclaredType::VertexSet => {
             let value = initializer.into_members(at, first_fault);
@@ -142,12 +142,12 @@ fn assign_initializer(
     ensures { outcome first_fault.old (assigned at (initializer_tree initializer) entity) ≡ (statement_kind_tree result, first_fault.new) }
 {
     match entity {
-        Entity::IntegerVariable(slot) => StatementKind::SetInteger(
+        Entity::IntVariable(slot) => StatementKind::SetInt(
             slot,
             initializer.into_integer(at, first_fault),
         ),
-        Entity::ConditionVariable(slot) => {
-            StatementKind::SetCondition(slot, initializer.into_condition(at, first_fault))
+        Entity::BoolVariable(slot) => {
+            StatementKind::SetBool(slot, initializer.into_condition(at, first_fault))
         }
         Entity::SetVariable(slot) => StatementKind::AssignSet(
             slot,
@@ -185,8 +185,8 @@ fn reduce_value(
     ensures { outcome first_fault.old (reduced at by (value_tree value) entity) ≡ (statement_kind_tree result, first_fault.new) }
 {
     match entity {
-        Entity::IntegerVariable(slot) => {
-            StatementKind::ReduceInteger(slot, by, integer_of(at, value, first_fault))
+        Entity::IntVariable(slot) => {
+            StatementKind::ReduceInt(slot, by, integer_of(at, value, first_fault))
         }
         Entity::Error => nothing(),
         _ => wrong(at, first_fault),
@@ -313,12 +313,12 @@ fn print_value(at: usize, value: Value, first_fault: &mut Option<Fault>) -> Stat
     }
     if value.is_condition() {
         return match value.into_condition() {
-            Some(c) => StatementKind::PrintCondition(c),
+            Some(c) => StatementKind::PrintBool(c),
             None => nothing(),
         };
     }
     match value.into_integer() {
-        Some(e) => StatementKind::PrintInteger(e),
+        Some(e) => StatementKind::PrintInt(e),
         None => wrong(at, first_fault),
     }
 }

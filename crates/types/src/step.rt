@@ -1,5 +1,5 @@
 //! Blocks of functions: typing of their statements. Where one is faulty, or no function may hold it, a harmless one
-//! stands in its place.
+//! is in its place.
 ghost use Rattle.std.specs.Prelude.{◌≡◌, OnOk};
 ghost use Rattle.syntax.specs.SourceViews.{statement_kind_tree as source_action, block_tree as source_block};
 ghost use Rattle.typed_tree.specs.FunctionStatementTree.{NoStep, function_statement_tree, function_statements_tree};

@@ -10,7 +10,7 @@ use thiserror::Error;
 /// Why vectors are not put in groups.
 #[derive(Clone, Copy, Debug, PartialEq, Eq, Error)]
 pub enum GroupError {
-    /// A group names what is no vector, or a vector that stands in a group already, or vectors with other numbers of
+    /// A group names what is no vector, or a vector that is in a group already, or vectors with other numbers of
     /// entries than its first.
     #[error("the groups do not fit the vectors")]
     Unfit,

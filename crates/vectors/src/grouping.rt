@@ -45,7 +45,7 @@ fn locate_group(locations: &mut [Location], groups: &[Sequence<usize>], k: usize
     true
 }
 
-/// Puts a vector that stands alone elsewhere. False where it is not there, does not stand alone, or has another
+/// Puts a vector that stands alone elsewhere. False where it is not there, is not alone, or has another
 /// number of entries.
 fn locate(locations: &mut [Location], vector: usize, location: Location) -> bool
     ensures put { IsTrue result → locations.new ≡ slice_set locations.old vector location }

@@ -1,7 +1,7 @@
 //! Lane: one vector, lent to be read.
 ghost use Rattle.std.specs.Prelude.{◌≡◌, ◌*◌, ◌<◌, ◌≤◌, ℕ, pos, IfSome, IsSome, length, slice_index_or};
 
-/// One vector, lent to be read. The entry of vertex v stands at index `v * stride + first`.
+/// One vector, lent to be read. The entry of vertex v is at index `v * stride + first`.
 #[derive(Clone, Copy)]
 pub struct Lane<'a> {
     pub(crate) numbers: &'a [i64],

@@ -38,7 +38,7 @@ pub(crate) fn own_locations(
     Ok(locations)
 }
 
-/// The vector that stands at a location, to be read.
+/// The vector that is at a location, to be read.
 pub(crate) fn lane_of(arrays: &[Sequence<i64>], location: Location) -> Lane<'_>
     requires { StandsIn arrays.now location }
     ensures { (v : ℕ) → lane_entry result v ≡ (if nat_lt v location.vertices then number_at arrays.now location.array
@@ -85,7 +85,7 @@ pub(crate) fn copy_vectors(
     Ok(copies)
 }
 
-/// Puts the vector that stands at a location into the array of its own index, where it is not there. The only error is out
+/// Puts the vector that is at a location into the array of its own index, where it is not there. The only error is out
 /// of memory.
 pub(crate) fn move_home(
     alloc: Global,

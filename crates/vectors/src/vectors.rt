@@ -105,7 +105,7 @@ impl Vectors {
     }
 
     /// The array of group k, from 0, or `None` where there are not so many: with g vectors in the group, the entry of
-    /// the j-th, from 0, at vertex v stands at index `v * g + j`.
+    /// the j-th, from 0, at vertex v is at index `v * g + j`.
     pub fn group(&self, k: usize) -> Option<&[i64]>
         ensures { MatchOption result (length self.now.groups ≤ k) (λ array. (k < length self.now.groups)
             × HasRows self.now.vectors (slice_index_or self.now.groups k []) array.now) }

@@ -24,7 +24,7 @@ AreOf s flats = (k : ℕ) (g : Digraph) → flat_of flats k ≡ Some g → IsKep
 abbrev pub MayGain : VersionFlats → ℕ → Digraph → VersionFlats → Type 0
 MayGain old k g new = (q : ℕ) (flat : Digraph) → flat_of new q ≡ Some flat → (flat_of old q ≡ Some flat) ⊎ ((q ≡ k) × (flat ≡ g))
 
--- no version but this one was let go, and the versions' graphs are as before
+-- no version but this one was dropped, and the versions' graphs are as before
 pub record Follows (old new : State) (version : ℕ) : Type 0 where
   pub made : newest_number old ≤ newest_number new
   pub graphs : (k : ℕ) → k ≤ newest_number old → version_graph new k ≡ version_graph old k

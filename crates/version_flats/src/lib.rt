@@ -5,7 +5,7 @@
 //! kept. [`VersionFlats::flat`] keeps it, and after a step that may let a version go [`VersionFlats::let_go`]
 //! brings it back.
 //!
-//! The crate of scripts stands on it.
+//! The crate of scripts depends on it.
 #![tactic(auto)]
 
 mod version_flats;

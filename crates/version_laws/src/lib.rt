@@ -9,7 +9,7 @@
 //! `tickets_are_numbered_in_order`): no number is given twice. `specs/Keeping.antt` and `specs/Numbering.antt` have the
 //! words.
 //!
-//! No crate of the program stands on this one, so that its proofs are off the way of a build.
+//! No crate of the program depends on this one, so that its proofs are off the way of a build.
 #![tactic(auto)]
 
 mod laws;

@@ -82,7 +82,7 @@ abbrev pub replies_to : State → List Step → List Reply
 replies_to s [] = []
 replies_to s (step ∷ steps) = reply_to s step ∷ replies_to (state_after s step) steps
 
--- the timeline after a step: one that is accepted stands at the end of the history, with its reply; after a trim the history has no entries
+-- the timeline after a step: one that is accepted is at the end of the history, with its reply; after a trim the history has no entries
 abbrev pub advanced : Timeline → Step → Timeline
 advanced t step = with_reply t step (reply_to t.state step)
 
@@ -91,7 +91,7 @@ abbrev pub advanced_through : Timeline → List Step → Timeline
 advanced_through t [] = t
 advanced_through t (step ∷ steps) = advanced_through (advanced t step) steps
 
--- each step is answered and taken in order, where replies is the list that the call gives; where memory runs out it may stop before a step, after those in
+-- each step is answered and taken in order, where replies is the list that the call gives; if memory runs out it may stop before a step, after those in
 -- front of it
 abbrev pub Runs : {A : Type 0} → Timeline → List Step → (A → List Reply) → Result A VersionError → Timeline → Type 0
 Runs old steps replies (Ok x) new = (replies x ≡ replies_to old.state steps) × (new ≡ advanced_through old steps)

@@ -4,7 +4,7 @@
 //! timeline: a base, which is the state in which it began or that after the last trim, the steps that
 //! it accepted since, each with its reply, and the state now. The machine that says what each step replies and changes is a definition of
 //! its own; every call is proved to be its step, and the history to be legal and to replay to the
-//! state. Shared graphs and script runs stand on this crate.
+//! state. Shared graphs and script runs depend on this crate.
 #![tactic(auto)]
 
 mod base;

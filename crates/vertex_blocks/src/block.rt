@@ -93,7 +93,7 @@ impl VertexBlock {
     }
 
     /// The page, and a bit for each vertex, set for those that have a list of their own: any other vertex has the list
-    /// that stands in the page. It takes constant time and no memory.
+    /// that is in the page. It takes constant time and no memory.
     #[inline]
     pub fn packed(&self) -> (&Page, u64)
         ensures { (u : ℕ) → u < 64 → bit_at result.1 u ≡ 0

@@ -101,7 +101,7 @@ impl<'a> NeighbourSet<'a> {
         }
     }
 
-    /// The set in chunks, where the neighbours stand in one and are not packed. It takes constant time
+    /// The set in chunks, where the neighbours are in one and are not packed. It takes constant time
     /// and no memory.
     pub fn chunked(&self) -> Option<&'a CTree>
         ensures { IfSome result (λ t. t.now.entries ≡ self.now) }

@@ -1,4 +1,4 @@
-//! The marked vertices, listed and let go.
+//! The marked vertices, listed and dropped.
 ghost use Rattle.std.specs.Prelude.{◌≡◌, ◌≢◌, ◌↔◌, ℕ, ◌+◌, ◌*◌, ◌^◌, ◌≤◌, ◌++◌, true, false, length, slice_index, Contains, IfOk, OnOk};
 ghost use Rattle.std.specs.List.Sorted.{IsStrictlyIncreasing};
 ghost use Rattle.vertex_sets.specs.inside.Words.{bit_members, word_members};

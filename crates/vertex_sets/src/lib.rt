@@ -14,7 +14,7 @@
 //! Two sets of the same members have the same list, by the law `sets_of_the_same_members_are_equal`, and
 //! `all_vertices_are_those_below` says what a full set has. These two do nothing when called.
 //!
-//! It is made for the engines, whose frontiers are such sets. It stands on none of the other crates. The
+//! It is made for the engines, whose frontiers are such sets. It depends on none of the other crates. The
 //! forms are those of Ligra's vertex subsets (Shun, Blelloch, PPoPP 2013), sparse and dense, and the bit
 //! vectors of GraphIt (Zhang et al., OOPSLA 2018).
 #![tactic(auto)]

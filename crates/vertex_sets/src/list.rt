@@ -6,7 +6,7 @@ ghost use Rattle.vertex_sets.specs.VertexSet.{IsAscendingBelow, IsAnswer, all_ve
 
 use std::alloc::{AllocError, Global};
 
-/// Whether a vertex stands in an ascending list. Takes `O(log k)` for k members.
+/// Whether a vertex is in an ascending list. Takes `O(log k)` for k members.
 pub(crate) fn contains(list: &[u32], vertex: u32) -> bool
     requires { IsStrictlyIncreasing list.now }
     ensures { IsTrue result ↔ Contains list.now vertex }
@@ -14,7 +14,7 @@ pub(crate) fn contains(list: &[u32], vertex: u32) -> bool
     list.binary_search(&vertex).is_ok()
 }
 
-/// Puts a vertex at its index, unless it stands there. Constant time at the end.
+/// Puts a vertex at its index, unless it is there. Constant time at the end.
 pub(crate) fn insert(list: &mut Vec<u32>, vertex: u32) -> Result<(), AllocError>
     requires { IsStrictlyIncreasing list.old.items }
     ensures ascending { IsStrictlyIncreasing list.new.items }

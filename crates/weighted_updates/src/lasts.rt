@@ -7,7 +7,7 @@ ghost use Rattle.weighted_updates.specs.inside.Lasts.{begins_same, last_weighted
 
 use crate::weighted_update::WeightedUpdate;
 
-/// Keeps the last update of each edge, of updates that stand in order, and lets go of the others. It
+/// Keeps the last update of each edge, of updates that are in order, and drops the others. It
 /// takes linear time and no memory.
 pub fn keep_last(updates: &mut Vec<WeightedUpdate>)
     requires { AreInOrder (updates_in updates.old.items) }

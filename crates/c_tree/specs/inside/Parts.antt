@@ -8,7 +8,7 @@ use Rattle.shared_tree.specs.Balanced.{Balanced}
 use Rattle.c_tree.specs.Chunks.{ChunkedSet, HeadValue, HasNoHead}
 use Rattle.c_tree.specs.inside.Chunks.{together, IsChunk}
 
--- what stands before all heads, and a tree of chunks, as a set
+-- what is before all heads, and a tree of chunks, as a set
 abbrev pub in_chunks : ℕ → BasedList → Balanced HeadValue → ChunkedSet
 in_chunks b prefix chunks = record { entries = together prefix chunks.entries; chunk_size = b; depth = chunks.depth }
 

@@ -10,7 +10,7 @@ use Rattle.c_tree.specs.Chunks.{HeadValue}
 abbrev pub StandsOverItsHead : ℕ × HeadValue → Type 0
 StandsOverItsHead c = c.1.tail.base ≡ Some c.0
 
--- The bytes spell the entries over the base, and what may stand after them may stand after the tail.
+-- The bytes spell the entries over the base, and what may be after them may be after the tail.
 pub record SpellsUpTo (base : Option ℕ) (es : List (ℕ × ℤ)) (last : BasedList) (bytes : List ℕ) : Type 0 where
   pub spells : Spells base es bytes
   pub after : least_after (least last.base) (keys_of last.entries) ≡ least_after (least base) (keys_of es)

@@ -8,7 +8,7 @@ use Rattle.crew.specs.declared.claim_word.ClaimView.{ClaimView}
 abbrev pub claim_view : ℕ → List ℕ → ℕ → ClaimView
 claim_view rights claimed next = record { rights = rights; claimed = claimed; next = next }
 
--- how often x stands in the list
+-- how often x is in the list
 abbrev pub times : ℕ → List ℕ → ℕ
 times x [] = 0
 times x (y ∷ ys) = cond (nat_eq y x) 1 0 + times x ys
@@ -38,7 +38,7 @@ AreClaimed n views =
 abbrev pub IsClaimWord : List ℕ → List ClaimView → Type 0
 IsClaimWord words views = (n : ℕ) × (words ≡ n ∷ []) × AreClaimed n views
 
--- What a claim tells: the number is not below one that the worker has, and stands after those.
+-- What a claim tells: the number is not below one that the worker has, and is after those.
 -- Who has all rights claimed each number below it before, and no other
 abbrev pub Claims : ClaimView → ℕ → ClaimView → Type 0
 Claims v k w = (v.next ≤ k) × (w ≡ claim_view v.rights (v.claimed ++ k ∷ []) (k + 1))

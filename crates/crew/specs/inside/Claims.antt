@@ -1,4 +1,4 @@
--- What a worker's claim is, and which pieces its numbers stand for.
+-- What a worker's claim is, and which pieces its numbers mean.
 use Rattle.std.specs.Prelude.{◌≡◌, ℕ, ◌+◌, ◌^◌, cond, nat_lt, List, [], ◌∷◌}
 use Rattle.atomic_table.specs.declared.shared.Seat.{Seat}
 use Rattle.atomic_table.specs.Seated.{TableId}

@@ -22,7 +22,7 @@ module _ {S : Type 0} (keeps : S → Type 0) where
       IsClaimAt table done.turn × (view.rights ≡ worker_rights) × (pieces ≤ view.next) × (length view.claimed ≤ worker_rights)
       × keeps done.state × All (IsAnswered answers pieces) done.found.items × (pieces_of done.found.items ≡ pieces_at pieces view.claimed)
 
--- P of each index and of what stands there
+-- P of each index and of what is there
 abbrev pub EachAt : {X : Type 0} → (ℕ → X → Type 0) → List X → Type 0
 EachAt {X} P xs = (i : ℕ) (x : X) → i < length xs → x ≡ slice_index_or xs i x → P i x
 

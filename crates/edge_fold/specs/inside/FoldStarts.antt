@@ -4,13 +4,13 @@ use Rattle.vectors.specs.Lanes.{lane_entry}
 use Rattle.edge_fold.specs.declared.apply_context.FoldStart.{FoldStart}
 use Rattle.edge_fold.specs.declared.initial_entries.InitialEntries.{InitialEntries}
 use Rattle.edge_fold.specs.declared.apply_context.FoldStart.TheVariants as start
-use Rattle.edge_fold.specs.declared.initial_entries.InitialEntries.TheVariants as opening
+use Rattle.edge_fold.specs.declared.initial_entries.InitialEntries.TheVariants as initial
 
--- the start of an opening, and its seed at a vertex
+-- where a fold starts from these initial entries, and its seed at a vertex
 abbrev pub start_of : InitialEntries → FoldStart
-start_of (opening.Entries old) = start.OldEntry
-start_of opening.Unit = start.Unit
+start_of (initial.Entries old) = start.OldEntry
+start_of initial.Unit = start.Unit
 
-abbrev pub opening_seed : InitialEntries → (v : ℕ) → ℤ → ℤ
-opening_seed (opening.Entries old) v h = lane_entry old v
-opening_seed opening.Unit v h = h
+abbrev pub initial_seed : InitialEntries → (v : ℕ) → ℤ → ℤ
+initial_seed (initial.Entries old) v h = lane_entry old v
+initial_seed initial.Unit v h = h

@@ -7,7 +7,7 @@ use Rattle.edge_fold.specs.Held.{held_with}
 use Rattle.edge_fold.specs.declared.initial_entries.InitialEntries.{InitialEntries}
 use Rattle.edge_fold.specs.Contributions.{reduced_at}
 use Rattle.edge_fold.specs.FoldStarts.{combined_with_seed}
-use Rattle.edge_fold.specs.inside.FoldStarts.{opening_seed, start_of}
+use Rattle.edge_fold.specs.inside.FoldStarts.{initial_seed, start_of}
 
 -- the new entry at a vertex, or this one where nothing was given
 abbrev pub held : Accumulator → ℕ → ℤ → ℤ
@@ -23,5 +23,5 @@ room a = marks_room a.marks
 
 -- after a join an accumulator has what was given to vertices, too
 abbrev pub AreJoined : InitialEntries → Reduction → (before after : Accumulator) → List (ℕ × ℤ) → Type 0
-AreJoined o r a b gs = (v : ℕ) (h : ℤ) → held_with (combined_with_seed (start_of o) r) b v (opening_seed o v h)
-    ≡ reduced_at r v (held_with (combined_with_seed (start_of o) r) a v (opening_seed o v h)) gs
+AreJoined o r a b gs = (v : ℕ) (h : ℤ) → held_with (combined_with_seed (start_of o) r) b v (initial_seed o v h)
+    ≡ reduced_at r v (held_with (combined_with_seed (start_of o) r) a v (initial_seed o v h)) gs

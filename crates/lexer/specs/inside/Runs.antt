@@ -25,7 +25,7 @@ class_of b =
     if b == 34 then Quote else
     Punctuation
 
--- a run of the test does not go on
+-- a run of the test does not continue
 abbrev pub EndsRun : (ℕ → Bool) → List ℕ → Type 0
 EndsRun test [] = Unit {0}
 EndsRun test (b ∷ bytes) = test b ≡ false
@@ -41,7 +41,7 @@ pub record IsFirst (kind : PieceKind) (bytes : List ℕ) (len : ℕ) : Type 0 wh
   pub longest : IsLongest (record { kind = kind; text = take len bytes }) (drop len bytes)
   pub small : IsSmall kind
 
--- what stands at the front
+-- what is at the front
 abbrev pub IsFront : List ℕ → Front → Type 0
 IsFront bytes (front.Gap len) = (kind : PieceKind) × IsGap kind × IsFirst kind bytes len
 IsFront bytes (front.Token kind len) = IsFirst (Lexeme kind) bytes len

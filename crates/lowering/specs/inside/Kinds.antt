@@ -1,6 +1,6 @@
 -- Kinds of statements.
 use Rattle.typed_tree.specs.BlockTree.{StatementKindTree, If, IfElse, While, For, DeclareSet, AssignSet, ApplyVertex, ApplyEdges, SetEntry, ReduceEntry}
-use Rattle.typed_tree.specs.BlockTree.{AddVertex, PrintInteger}
+use Rattle.typed_tree.specs.BlockTree.{AddVertex, PrintInt}
 use Rattle.typed_tree.specs.declared.statement.SetValue.{SetValue}
 use Rattle.typed_tree.specs.declared.statement.SetValue.TheVariants as set
 
@@ -25,7 +25,7 @@ abbrev pub IsOther : StatementKindTree → Type 0
 IsOther (SetEntry vector index e) = Unit {0}
 IsOther (ReduceEntry vector index reduction e) = Unit {0}
 IsOther (AddVertex slot e) = Unit {0}
-IsOther (PrintInteger e) = Unit {0}
+IsOther (PrintInt e) = Unit {0}
 IsOther (DeclareSet name value) = Unit {0}
 IsOther (AssignSet slot value) = Unit {0}
 IsOther (ApplyVertex set function) = Unit {0}

@@ -17,13 +17,13 @@ pub record KeepsIndex (old new : List Instruction) (index : ℕ) : Type 0 where
   pub is : new ≡ old ++ kept ∷ []
   pub at : index ≡ length old
 
--- an instruction of a program has come to stand at an index
+-- an instruction of a program is at an index now
 pub record Fills (p : ProgramTree) (old new : List Instruction) (index : ℕ) (tree : InstructionTree) : Type 0 where
   pub instruction : Instruction
   pub is : new ≡ slice_set old index instruction
   pub written : IsWritten p instruction tree
 
--- a loop has begun: an index is kept for its test, and its turn stands after that
+-- a loop has begun: an index is kept for its test, and its turn is after that
 pub record BeginsLoop (p : ProgramTree) (old new : List Instruction) (index : ℕ) (turn : InstructionTree) : Type 0 where
   pub test : List Instruction
   pub keeps : KeepsIndex old test index

@@ -1,4 +1,4 @@
--- Targets of operations, the indices where a run may go on, as words.
+-- Targets of operations, the indices where a run may continue, as words.
 use Rattle.std.specs.Prelude.{ℕ, List, [], ◌∷◌, decimal}
 use Rattle.plans.specs.declared.operation.PlanOperation.{PlanOperation}
 use Rattle.plans.specs.declared.operation.PlanOperation.TheVariants.{Unless, UnlessBelow, Jump}

@@ -15,7 +15,7 @@ use schedule::Schedule;
 use std::alloc::{AllocError, Global};
 use typed_tree::{MainStatement, StatementKind, Typed};
 
-/// The two applies that are done together at a statement, where so much is visible and the statements `rest` stand after
+/// The two applies that are done together at a statement, where so much is visible and the statements `rest` are after
 /// it: it and the next, if the schedule fuses it with that one and they may be done together. Else it is done alone, and
 /// the answer is `None`. The only error is out of memory.
 pub(crate) fn pair_at(

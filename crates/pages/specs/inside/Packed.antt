@@ -20,7 +20,7 @@ list_of first w (suc n) bytes = first ∷ after_first first w n bytes
 abbrev pub elements_in : ℕ → ℕ → List ℕ → List ℕ
 elements_in w n bytes = list_of (number_of (take 4 bytes)) w n (drop 4 bytes)
 
--- n elements with their weights, which stand after the offsets
+-- n elements with their weights, which are after the offsets
 abbrev pub entries_of : ℕ → ℕ → ℕ → WeightWidth → List ℕ → List (ℕ × ℤ)
 entries_of first w n v bytes = weighted (list_of first w n bytes) (weights_from v n (drop (w * (n - 1)) bytes))
 

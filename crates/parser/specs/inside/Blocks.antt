@@ -1,4 +1,4 @@
--- What statements are read by their first terminal, and blocks by how deep they may stand in each other.
+-- What statements are read by their first terminal, and blocks by how deep they may be nested.
 use Rattle.std.specs.Prelude.{ℕ, zero, suc, List, [], ◌∷◌, Option, Some, None}
 use Rattle.lexer.specs.declared.keyword.Keyword.{Keyword}
 use Rattle.lexer.specs.declared.keyword.Keyword.TheVariants as keyword
@@ -8,10 +8,10 @@ use Rattle.syntax.specs.SourceTrees.{ExpressionTree, StatementKindTree, Declare,
 use Rattle.syntax.specs.ExpressionReading.{Reader}
 use Rattle.syntax.specs.Nesting.{◌>>=◌}
 use Rattle.syntax.specs.SourceReading.{expression, typed_at, assigned_at, ended_at, name_reader, after_terminal, closed_by, no_block, block_at, action_by}
-use Rattle.parser.specs.declared.block.Opening.{Opening}
-use Rattle.parser.specs.declared.block.Opening.TheVariants as opening
+use Rattle.parser.specs.declared.block.StatementKeyword.{StatementKeyword}
+use Rattle.parser.specs.declared.block.StatementKeyword.TheVariants as statement_keyword
 
--- a block in a statement, where so many more may stand in each other
+-- a block in a statement, where so many more may be nested
 abbrev pub block_in : ℕ → Reader BlockTree
 block_in zero = no_block
 block_in (suc depth) = block_at depth
@@ -20,19 +20,19 @@ abbrev pub action_at : ℕ → Reader StatementKindTree
 action_at depth = action_by (block_in depth)
 
 -- what begins with a keyword
-abbrev pub opening_of : Keyword → Option Opening
-opening_of keyword.Var = Some opening.Var
-opening_of keyword.While = Some opening.While
-opening_of keyword.For = Some opening.For
-opening_of keyword.If = Some opening.If
-opening_of keyword.Print = Some opening.Print
-opening_of _ = None
+abbrev pub statement_keyword_of : Keyword → Option StatementKeyword
+statement_keyword_of keyword.Var = Some statement_keyword.Var
+statement_keyword_of keyword.While = Some statement_keyword.While
+statement_keyword_of keyword.For = Some statement_keyword.For
+statement_keyword_of keyword.If = Some statement_keyword.If
+statement_keyword_of keyword.Print = Some statement_keyword.Print
+statement_keyword_of _ = None
 
--- what stands after `var`
+-- what is after `var`
 abbrev pub declared_at : ℕ → Reader StatementKindTree
 declared_at at ws = typed_at ws >>= λ n. assigned_at n.1 >>= λ i. Some (Declare at n.0 i.0, i.1)
 
--- what stands after `print`
+-- what is after `print`
 abbrev pub printed_at : ℕ → Reader StatementKindTree
 printed_at at ws = ended_at ws >>= λ e. Some (Print at e.0, e.1)
 
@@ -46,17 +46,17 @@ range_at ws =
 abbrev pub to_end_by : Reader BlockTree → Reader BlockTree
 to_end_by block ws = block ws >>= closed_by (OfKeyword keyword.End ∷ [])
 
--- what stands after the body of an `if`
+-- what is after the body of an `if`
 abbrev pub otherwise_by : Reader BlockTree → ℕ → ExpressionTree → BlockTree × List Terminal → Option (List Terminal)
     → Option (StatementKindTree × List Terminal)
 otherwise_by block at test body None = closed_by (OfKeyword keyword.End ∷ []) (If at test body.0, body.1)
 otherwise_by block at test body (Some after) = to_end_by block after >>= λ b. Some (IfElse at test body.0 b.0, b.1)
 
--- what stands after that keyword
-abbrev pub opened_by : Reader BlockTree → Opening → ℕ → Reader StatementKindTree
-opened_by block opening.Var at ws = declared_at at ws
-opened_by block opening.While at ws = expression ws >>= λ e. to_end_by block e.1 >>= λ b. Some (While at e.0 b.0, b.1)
-opened_by block opening.For at ws =
+-- what is after that keyword
+abbrev pub opened_by : Reader BlockTree → StatementKeyword → ℕ → Reader StatementKindTree
+opened_by block statement_keyword.Var at ws = declared_at at ws
+opened_by block statement_keyword.While at ws = expression ws >>= λ e. to_end_by block e.1 >>= λ b. Some (While at e.0 b.0, b.1)
+opened_by block statement_keyword.For at ws =
     range_at ws >>= λ r. to_end_by block r.1 >>= λ b. Some (For at r.0.0 r.0.1 r.0.2 b.0, b.1)
-opened_by block opening.If at ws = expression ws >>= λ e. block e.1 >>= λ b. otherwise_by block at e.0 b (after_terminal (OfKeyword keyword.Else) b.1)
-opened_by block opening.Print at ws = printed_at at ws
+opened_by block statement_keyword.If at ws = expression ws >>= λ e. block e.1 >>= λ b. otherwise_by block at e.0 b (after_terminal (OfKeyword keyword.Else) b.1)
+opened_by block statement_keyword.Print at ws = printed_at at ws

@@ -17,7 +17,7 @@ beginning_of keyword.Const = Some beginning.Constant
 beginning_of keyword.Func = Some beginning.Function
 beginning_of _ = None
 
--- what stands after `const`
+-- what is after `const`
 abbrev pub constant_at : ℕ → Reader DeclarationTree
 constant_at at ws = typed_at ws >>= λ n. assigned_at n.1 >>= λ i. Some (Constant at n.0 i.0, i.1)
 
@@ -27,7 +27,7 @@ signature_at ws =
     name_reader ws >>= λ n. parameters_at n.1 >>= λ p. result_by p.1 (after_terminal (OfSymbol symbol.Arrow) p.1) >>= λ r.
     Some ((n.0, p.0, r.0), r.1)
 
--- what stands after `func`
+-- what is after `func`
 abbrev pub function_at : ℕ → Reader DeclarationTree
 function_at at ws =
     signature_at ws >>= λ s. block s.1 >>= λ b. closed_by (OfKeyword keyword.End ∷ []) (Function at s.0.0 s.0.1 s.0.2 b.0, b.1)

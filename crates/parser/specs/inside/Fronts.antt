@@ -75,7 +75,7 @@ applied_function_at ws =
 abbrev pub applied_by : Identifier → Reader StatementKindTree
 applied_by target ws = ends_at ws >>= λ e. applied_function_at e.1 >>= λ f. Some (Apply target e.0 f.0, f.1)
 
--- what stands after `filter`
+-- what is after `filter`
 abbrev pub filter_at : Identifier → Reader InitialTree
 filter_at set ws = argument_at ws >>= λ n. Some (Filter set n.0, n.1)
 
@@ -89,13 +89,13 @@ call_by name ws (Some keyword.Filter) =
     after_terminals (OfSymbol symbol.Dot ∷ OfKeyword keyword.Filter ∷ []) ws >>= filter_at name
 call_by name ws _ = modified_by name ws
 
--- what stands after `new`
+-- what is after `new`
 abbrev pub new_set_at : Reader InitialTree
 new_set_at ws =
     after_terminals (OfKeyword keyword.VertexSet ∷ (in_braces (OfKeyword keyword.Vertex) ++ OfSymbol symbol.OpenParenthesis ∷ [])) ws >>= λ a.
     number_at a >>= λ n. closed_by (OfSymbol symbol.CloseParenthesis ∷ []) (NewSet n.0, n.1)
 
--- what stands after `load`
+-- what is after `load`
 abbrev pub load_at : Reader InitialTree
 load_at ws =
     after_terminals (OfSymbol symbol.OpenParenthesis ∷ OfKeyword keyword.Argv ∷ OfSymbol symbol.OpenBracket ∷ []) ws >>= λ a.

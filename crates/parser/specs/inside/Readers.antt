@@ -27,7 +27,7 @@ IsAfter terminal ws found = MatchOption found
     ((rest : List Terminal) → ws ≢ terminal ∷ rest)
     (λ after. ws ≡ terminal ∷ terminals after)
 
--- what reading gives: a tree, as view sees it, and the terminals after it, or none; nothing is said where memory runs out
+-- what reading gives: a tree, as view sees it, and the terminals after it, or none; nothing is said if memory runs out
 abbrev pub Gives : {T A : Type 0} → (T → A) → Result (T × Cursor) SyntaxError → Option (A × List Terminal) → Type 0
 Gives view (Ok x) read = read ≡ Some (view x.0, terminals x.1)
 Gives view (Err (Unexpected left)) read = read ≡ None
@@ -39,7 +39,7 @@ IsExpected terminal ws (Ok after) = ws ≡ terminal ∷ terminals after
 IsExpected terminal ws (Err (Unexpected left)) = (rest : List Terminal) → ws ≢ terminal ∷ rest
 IsExpected terminal ws (Err NoMemory) = ⊥
 
--- the name at the front, and the terminals after it, or that there is none; nothing is said where memory runs out
+-- the name at the front, and the terminals after it, or that there is none; nothing is said if memory runs out
 abbrev pub IsName : List Terminal → Result (Identifier × Cursor) SyntaxError → Type 0
 IsName ws (Ok x) = ws ≡ Name x.0 ∷ terminals x.1
 IsName ws (Err (Unexpected left)) = (name : Identifier) (rest : List Terminal) → ws ≢ Name name ∷ rest
@@ -52,7 +52,7 @@ Passes (Err (Unexpected left)) read = read ≡ None
 Passes (Err NoMemory) read = ⊥
 
 -- the answer is the expression with which the terminals begin, and the terminals after it, or that they begin with none so deep;
--- nothing is said where memory runs out
+-- nothing is said if memory runs out
 abbrev pub AnswersBegins : ℕ → List Terminal → Result (ExpressionTree × Cursor) SyntaxError → Type 0
 AnswersBegins depth ws (Ok x) = Begins depth ws x.0 (terminals x.1)
 AnswersBegins depth ws (Err (Unexpected left)) = (tree : ExpressionTree) (rest : List Terminal) → Begins depth ws tree rest → ⊥

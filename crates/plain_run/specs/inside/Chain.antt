@@ -1,4 +1,4 @@
--- What a row of signs and a list of operands do to what stands before them.
+-- What a row of signs and a list of operands do to what is before them.
 use Rattle.std.specs.Prelude.{ℕ, zero, suc, ℤ, Bool, true, not, ◌&&◌, List, [], ◌∷◌}
 use Rattle.typed_tree.specs.declared.expression.Connective.{Connective}
 use Rattle.typed_tree.specs.declared.expression.Operand.{Operand}

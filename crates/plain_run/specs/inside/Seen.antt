@@ -22,7 +22,7 @@ scope_of s = record { integers = s.integers.items; conditions = s.conditions.ite
 abbrev pub state_of : InterpreterState → StateValue
 state_of s = record { vectors = s.vectors.items; sets = s.sets.items; scope = scope_of s.scope; text = s.text.items; turns = s.turns }
 
--- where a run stands: it goes on, or it has ended
+-- where a run stands: it continues, or it has ended
 abbrev pub stand : Option End → StateValue → Stand
 stand None s = Live s
 stand (Some end) s = Over s end

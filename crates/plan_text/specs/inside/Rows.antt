@@ -1,4 +1,4 @@
--- What stands after the first operand of a row of operands.
+-- What is after the first operand of a row of operands.
 use Rattle.std.specs.Prelude.{ℕ, zero, suc, List, [], ◌∷◌, ◌++◌}
 use Rattle.typed_tree.specs.declared.expression.Connective.{Connective}
 use Rattle.typed_tree.specs.declared.expression.Operand.{Operand}

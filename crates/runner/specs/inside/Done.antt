@@ -30,18 +30,18 @@ after_flow (flow.Ended end) number shown index loops s = Ended (forget_beyond sh
 
 -- its kernels are made for what is visible
 abbrev pub IsReady : (keep shown : Depth) → PlanOperation → Type 0
-IsReady keep shown (op.DeclareInteger name k) = IsFor keep k
-IsReady keep shown (op.DeclareCondition name k) = IsFor keep k
-IsReady keep shown (op.SetInteger slot k) = IsFor keep k
-IsReady keep shown (op.SetCondition slot k) = IsFor keep k
-IsReady keep shown (op.ReduceInteger slot reduction k) = IsFor keep k
+IsReady keep shown (op.DeclareInt name k) = IsFor keep k
+IsReady keep shown (op.DeclareBool name k) = IsFor keep k
+IsReady keep shown (op.SetInt slot k) = IsFor keep k
+IsReady keep shown (op.SetBool slot k) = IsFor keep k
+IsReady keep shown (op.ReduceInt slot reduction k) = IsFor keep k
 IsReady keep shown (op.SetEntry vector index k) = IsFor keep index × IsFor keep k
 IsReady keep shown (op.ReduceEntry vector index reduction k) = IsFor keep index × IsFor keep k
 IsReady keep shown (op.DeclareSet name members) = Unit {0}
 IsReady keep shown (op.AssignSet slot members) = Unit {0}
 IsReady keep shown (op.AddVertex slot k) = IsFor keep k
-IsReady keep shown (op.PrintInteger k) = IsFor keep k
-IsReady keep shown (op.PrintCondition k) = IsFor keep k
+IsReady keep shown (op.PrintInt k) = IsFor keep k
+IsReady keep shown (op.PrintBool k) = IsFor keep k
 IsReady keep shown (op.ApplyVertices set first second) = Unit {0}
 IsReady keep shown (op.ApplyEdges ends first second) = Unit {0}
 IsReady keep shown (op.Unless k to) = IsFor keep k
@@ -52,7 +52,7 @@ IsReady keep shown op.Turn = Unit {0}
 IsReady keep shown (op.Jump to) = Unit {0}
 IsReady keep shown op.End = Unit {0}
 
--- it says where the run goes on, or that it ends
+-- it says where the run continues, or that it ends
 abbrev pub IsControl : PlanOperation → Type 0
 IsControl (op.Unless k to) = Unit {0}
 IsControl (op.Enter name k) = Unit {0}
@@ -71,14 +71,14 @@ WritesEntry other = ⊥
 
 -- it takes values of expressions, writes to no vector, and is followed by the instruction at the next index
 abbrev pub TakesValues : PlanOperation → Type 0
-TakesValues (op.DeclareInteger name k) = Unit {0}
-TakesValues (op.DeclareCondition name k) = Unit {0}
-TakesValues (op.SetInteger slot k) = Unit {0}
-TakesValues (op.SetCondition slot k) = Unit {0}
-TakesValues (op.ReduceInteger slot reduction k) = Unit {0}
+TakesValues (op.DeclareInt name k) = Unit {0}
+TakesValues (op.DeclareBool name k) = Unit {0}
+TakesValues (op.SetInt slot k) = Unit {0}
+TakesValues (op.SetBool slot k) = Unit {0}
+TakesValues (op.ReduceInt slot reduction k) = Unit {0}
 TakesValues (op.AddVertex slot k) = Unit {0}
-TakesValues (op.PrintInteger k) = Unit {0}
-TakesValues (op.PrintCondition k) = Unit {0}
+TakesValues (op.PrintInt k) = Unit {0}
+TakesValues (op.PrintBool k) = Unit {0}
 TakesValues other = ⊥
 
 -- they are the kernels of some program's functions
@@ -86,7 +86,7 @@ pub record HaveTrees (f : FunctionKernels) : Type 0 where
   pub program : ProgramTree
   pub are : AreFunctionKernels f program
 
--- an operation is done, and the run goes on so, wherever the instruction stands
+-- an operation is done, and the run continues so, wherever the instruction stands
 abbrev pub HasDone : Instruction → Flow → (old new : Memory) → ProgramTree → GraphValue → OperationTree → Type 0
 HasDone i f old new p g t = (index : ℕ)
     → after_flow f i.number i.shown index (loops_of new) new.state.state ≡ act p g t i.number i.shown index (loops_of old) old.state.state
@@ -96,14 +96,14 @@ pub record IsAsBefore (old new : Memory) : Type 0 where
   pub state : new.state ≡ old.state
   pub loops : new.loops.items ≡ old.loops.items
 
--- two runs stand before the same index with as many turns left, or have both ended
+-- two runs are before the same index with as many turns left, or have both ended
 abbrev pub AreLevel : Configuration → Configuration → Type 0
 AreLevel (At index loops s) (At index' loops' s') = (index ≡ index') × (s.turns ≡ s'.turns)
 AreLevel (At index loops s) (Ended s' end) = ⊥
 AreLevel (Ended s end) (At index loops s') = ⊥
 AreLevel (Ended s end) (Ended s' end') = Unit {0}
 
--- the run goes on where the operation leads, with as many turns left
+-- the run continues where the operation leads, with as many turns left
 abbrev pub IsLevel : Instruction → Flow → (old new : Memory) → ProgramTree → GraphValue → OperationTree → Type 0
 IsLevel i f old new p g t = (index : ℕ)
     → AreLevel (after_flow f i.number i.shown index (loops_of new) new.state.state) (act p g t i.number i.shown index (loops_of old) old.state.state)

@@ -25,7 +25,7 @@ abbrev pub PutsIndex : List (List ℕ × ℕ) → List ℕ → ℕ → List (Lis
 PutsIndex old name index new =
     (other : List ℕ) (rest : Option ℕ) → first_of (found other new) rest ≡ first_of (found other old) (if bytes_eq other name then Some index else rest)
 
--- a call that breaks no rule leaves what it comes to, and another answers the rule
+-- a call that breaks no rule leaves its result, and another answers the rule
 abbrev pub Puts : Result ScheduleTree ScheduleRule → Option ScheduleRule → ScheduleTree → Type 0
 Puts outcome None new = outcome ≡ Ok new
 Puts outcome (Some rule) new = outcome ≡ Err rule
@@ -41,7 +41,7 @@ PutsAll outcome (Ok _) new = outcome ≡ Ok new
 PutsAll outcome (Err (Faulty rule at)) new = outcome ≡ Err (rule, at)
 PutsAll outcome (Err NoMemory) new = Unit {0}
 
--- the table has what each label stands before
+-- the table has what each label is before
 abbrev pub AreSites : List (ℕ × Site) → BlockTree → Type 0
 AreSites sites main = (label : ℕ) → lookup (nat_eq label) sites ≡ site_of label main
 
@@ -49,7 +49,7 @@ AreSites sites main = (label : ℕ) → lookup (nat_eq label) sites ≡ site_of 
 abbrev pub bytes_of_two : Bor (List ℕ) × Bor (List ℕ) → List ℕ × List ℕ
 bytes_of_two arguments = (arguments.0.now, arguments.1.now)
 
--- the label stands before this where it stood before nothing
+-- the label is before this where it stood before nothing
 abbrev pub PutsSite : List (ℕ × Site) → ℕ → Site → List (ℕ × Site) → Type 0
 PutsSite old label site new =
     (other : ℕ) (rest : Option Site) → first_of (lookup (nat_eq other) new) rest ≡ first_of (lookup (nat_eq other) old)

@@ -5,7 +5,7 @@ use Rattle.std.specs.Option.{option_map}
 use Rattle.decimal.specs.Numbers.{number_of, integer_of}
 use Rattle.scripts.specs.Commands.{HasNone, words_of}
 
--- what stands before the first separator c and what stands after it, or nothing where there is none
+-- what is before the first separator c and what is after it, or nothing where there is none
 abbrev pub IsCutAt : ℕ → List ℕ → Option (Bor (List ℕ) × Bor (List ℕ)) → Type 0
 IsCutAt c bytes cut = MatchOption cut (HasNone c bytes) (λ parts. (bytes ≡ parts.0.now ++ c ∷ parts.1.now) × HasNone c parts.0.now)
 

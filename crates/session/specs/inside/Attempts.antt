@@ -23,7 +23,7 @@ Attempts programs w a old (Ok reply) new = Takes programs a reply new
 Attempts programs w a old (Err NoMemory) new = new ≡ old
 Attempts programs w a old (Err e) new = (a ≡ step_refused w (number_of e)) × (new ≡ old)
 
--- a refusal is told as a reply
+-- a refusal is reported as a reply
 abbrev pub told_of : Result SessionReply SessionError → Result SessionReply SessionError
 told_of (Ok reply) = Ok reply
 told_of (Err NoMemory) = Err NoMemory

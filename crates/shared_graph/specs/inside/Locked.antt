@@ -7,7 +7,7 @@ use Rattle.version_list.specs.declared.error.VersionError.TheVariants.{VertexRan
 use Rattle.shared_graph.specs.Histories.{ReaderState, Shows, steps_of, own, state_at}
 use Rattle.shared_graph.specs.declared.entry.Entry.{Entry}
 
--- the versions have the last entries of this history, those since the last trim, begin in its replay up to these, and stand in its replay
+-- the versions have the last entries of this history, those since the last trim, begin in its replay up to these, and are in its replay
 pub record IsTimelineOf (base : State) (log : List Entry) (t : Timeline) : Type 0 where
   pub earlier : List Entry
   pub recent : List Entry
@@ -20,7 +20,7 @@ pub record IsTimelineOf (base : State) (log : List Entry) (t : Timeline) : Type 
 abbrev pub AreCounts : List Entry → List ℕ → Type 0
 AreCounts log counts = (reader : ℕ) → reader < length counts → slice_index counts reader ≡ length (own reader log)
 
--- a reader shows this history, at whose end a step is refused; where memory ran out it is as it was
+-- a reader shows this history, at whose end a step is refused; if memory ran out it is as it was
 abbrev pub ShowsRefusal : State → VersionError → ReaderState → List Entry → ReaderState → Type 0
 ShowsRefusal base NoMemory old log new = new ≡ old
 ShowsRefusal base VertexRange old log new = Shows base old new × (new.shown ≡ log)

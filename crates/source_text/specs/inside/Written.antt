@@ -15,7 +15,7 @@ use Rattle.source_text.specs.Text.{text_of}
 unfoldable pub Completes : List ℕ → List Terminal → List ℕ → Type 0
 Completes bytes terminals whole = bytes ++ text_of terminals ≡ whole
 
--- The step from the old bytes to the new ones has written what stands before the rest, whatever the rest is.
+-- The step from the old bytes to the new ones has written what is before the rest, whatever the rest is.
 abbrev pub Puts : (List Terminal → List Terminal) → List ℕ → List ℕ → Type 0
 Puts before old new = (rest : List Terminal) (whole : List ℕ) → Completes old (before rest) whole → Completes new rest whole
 
@@ -23,7 +23,7 @@ Puts before old new = (rest : List Terminal) (whole : List ℕ) → Completes ol
 abbrev pub signs_before : List Prefix → List Terminal → List Terminal
 signs_before signs rest = each_before (λ sign others. prefix_terminal sign ∷ others) signs rest
 
--- From the old bytes to these it has written what stands before the rest, but for the items from this one on.
+-- From the old bytes to these it has written what is before the rest, but for the items from this one on.
 unfoldable pub PutsUpTo : {A : Type 0} → (List Terminal → List Terminal) → (A → List Terminal → List Terminal) → List A → ℕ → List ℕ → List ℕ → Type 0
 PutsUpTo before step items i old new =
     (rest : List Terminal) (whole : List ℕ) → Completes old (before rest) whole → Completes new (each_before step (drop i items) rest) whole

@@ -1,4 +1,4 @@
--- Trees whose expressions and blocks stand in each other no deeper than readers go.
+-- Trees whose expressions and blocks are nested no deeper than readers go.
 use Rattle.std.specs.Prelude.{ℕ, zero, suc, ◌≤◌, List, [], ◌∷◌}
 use Rattle.syntax.specs.SourceTrees.{ExpressionTree, InitialTree, Value, StatementKindTree, Declare, While, For, If, IfElse, Print, Assign, Reduce, SetEntry}
 use Rattle.syntax.specs.SourceTrees.{ReduceEntry, AddVertex, Apply, BlockTree, Empty, Then, DeclarationTree, Constant, Function, SourceTree}

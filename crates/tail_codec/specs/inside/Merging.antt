@@ -17,7 +17,7 @@ merged Difference xs ys = without_keys xs (keys_of ys)
 abbrev pub merged_keys : {V : Type 0} → Operation → List (ℕ × V) → List (ℕ × V) → List ℕ
 merged_keys op xs ys = combined op (keys_of xs) (keys_of ys)
 
--- The columns have what stands in front of the answer, and one of xs and ys is over.
+-- The columns have what is in front of the answer, and one of xs and ys is over.
 pub record IsMerged (op : Operation) (xs ys : List (ℕ × ℤ)) (keys : List ℕ) (weights : List ℤ) (m : Merged) : Type 0 where
   pub first : m.first ≤ length xs
   pub second : m.second ≤ length ys

@@ -7,7 +7,7 @@ pub record Fits (k n : ℕ) : Type 0 where
   pub some : 0 < n
   pub small : k < 2 ^ (7 * n)
 
--- The bytes of k stand in new from a position on up to the next position, and those before as in old.
+-- The bytes of k are in new from a position on up to the next position, and those before as in old.
 pub record WritesNumber (k position : ℕ) (old : List ℕ) (next : ℕ) (new : List ℕ) : Type 0 where
   pub bytes : List ℕ
   pub spells : SpellsNumber k bytes
@@ -23,7 +23,7 @@ abbrev pub list_room : List (ℕ × ℤ) → ℕ
 list_room [] = 0
 list_room (e ∷ es) = entry_room e.1 + list_room es
 
--- The bytes of an entry, whose key is g above the least, stand in new from a position on.
+-- The bytes of an entry, whose key is g above the least, are in new from a position on.
 pub record WritesEntry (g : ℕ) (w : ℤ) (position : ℕ) (old : List ℕ) (next : ℕ) (new : List ℕ) : Type 0 where
   pub bytes : List ℕ
   pub spells : SpellsNumbers (entry_numbers g w) bytes

@@ -17,7 +17,7 @@ pub record AreAround (bs : List (ℕ × Block)) (us : List (EdgeUpdate × ℤ)) 
   pub map : IsSplit m.number bs m.below.tree.entries m.found m.above.tree.entries
   pub cut : IsCutAround us m.number m.below.updates m.updates m.above.updates
 
--- the tree is changed by the updates, cut by blocks, and its growth told
+-- the tree is changed by the updates, cut by blocks, and its growth reported
 pub record IsChangedTree (us : List (EdgeUpdate × ℤ)) (bs : List (ℕ × Block)) (c : Changed VertexBlock) : Type 0 where
   pub changes : List (ℕ × BlockChange)
   pub cut : AreCut us changes

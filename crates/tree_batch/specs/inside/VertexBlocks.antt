@@ -24,4 +24,4 @@ pub record IsGraph (n m : ℕ) (outgoing incoming : List (ℕ × Block)) : Type 
 pub record AreBlocksLeft (k : ℕ) (left : Block) (bs : List (ℕ × Block)) : Type 0 where
   pub number : k < 2 ^ 18
   pub vertices : IsBlock left
-  pub behind : AreGraphBlocks bs
+  pub later : AreGraphBlocks bs

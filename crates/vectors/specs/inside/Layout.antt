@@ -17,7 +17,7 @@ own_location arrays i = record { array = i; first = 0; stride = 1; vertices = le
 abbrev pub number_at : List (List ℤ) → (array index : ℕ) → ℤ
 number_at arrays array index = slice_index_or (slice_index_or arrays array []) index (pos 0)
 
--- the vector that stands at a location
+-- the vector that is at a location
 abbrev pub vector_at : List (List ℤ) → Location → List ℤ
 vector_at arrays l = map (λ v. number_at arrays l.array (v * l.stride + l.first)) (range_with_len 0 l.vertices)
 
@@ -39,7 +39,7 @@ pub record IsHome (groups : List (List ℕ)) (count i : ℕ) (l : Location) : Ty
   pub grouped : (k : ℕ) → l.array ≡ count + k → l.stride ≡ length (slice_index_or groups k [])
   pub named : (k : ℕ) → l.array ≡ count + k → slice_index_or (slice_index_or groups k []) l.first 0 ≡ i
 
--- the vector that a group names at an index stands there
+-- the vector that a group names at an index is there
 pub record IsMember (groups : List (List ℕ)) (ls : List Location) (k j : ℕ) : Type 0 where
   pub vector : slice_index_or (slice_index_or groups k []) j 0 < length ls
   pub array : (location_at ls (slice_index_or (slice_index_or groups k []) j 0)).array ≡ length ls + k

@@ -1,4 +1,4 @@
--- Fields of versions: the state and the timeline that they stand for, and what is true of them; the invariant of `Versions`.
+-- Fields of versions: the state and the timeline that they mean, and what is true of them; the invariant of `Versions`.
 use Rattle.std.specs.Prelude.{◌≡◌, ◌+◌, ◌≤◌, length, vec_capacity}
 use Rattle.version_list.specs.declared.versions.Versions.TheInside.{Inside}
 use Rattle.version_list.specs.Machine.{State, newest_number, newest_graph, version_graph}
@@ -9,7 +9,7 @@ use Rattle.version_list.specs.inside.Held.{Holds, AreTickets, HasRoom}
 abbrev pub base : Inside → State
 base a = a.base.state
 
--- the timeline that the fields stand for
+-- the timeline that the fields mean
 abbrev pub timeline : Inside → Timeline
 timeline a = record { base = base a; history = a.history.items; state = replay (base a) a.history.items; reserved = a.reserved }
 

@@ -1,4 +1,4 @@
--- Vertices whose lists stand in a page or by themselves.
+-- Vertices whose lists are in a page or by themselves.
 use Rattle.std.specs.Prelude.{◌≡◌, ℕ, ◌<◌, ◌⊎◌, Option, [], ◌++◌, length, IfSome}
 use Rattle.pages.specs.Vertices.{neighbours_of, IsPage}
 use Rattle.pages.specs.inside.Built.{built}

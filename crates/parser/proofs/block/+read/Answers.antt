@@ -8,7 +8,7 @@ use Rattle.parser.proofs.Faults.{passed_on}
 use Rattle.syntax.specs.inside.SourceViews.{statement_of}
 use Rattle.syntax.specs.SourceViews.{statement_kind_tree}
 use Rattle.syntax.specs.SourceReading.{begins_statement}
-use Rattle.parser.specs.inside.Blocks.{action_at, block_in, opening_of}
+use Rattle.parser.specs.inside.Blocks.{action_at, block_in, statement_keyword_of}
 use Rattle.parser.specs.inside.Views.{statements_tree}
 use Rattle.parser.proofs.BlockLaws.{block_ends, block_fails, next_is, block_from-map, opened_is}
 use Rattle.parser.proofs.Lists.{list_start, list_step}
@@ -41,8 +41,8 @@ action-returns-in-Some-begun_by-clause-reads t c =
     c.in-Some.ensures.terminal
     ∙ ap (λ kind. terminal_of kind (slice_of c.args.cursor.text.now c.in-Some.token.span) c.in-Some.token.span.start ∷ terminals c.in-Some.after) c.in-Keyword.is
     in
-    let opening : opening_of c.in-Keyword.keyword ≡ Some c.in-Some-begun_by.opening = sym c.in-Some-begun_by.ensures in
+    let statement_keyword : statement_keyword_of c.in-Keyword.keyword ≡ Some c.in-Some-begun_by.statement_keyword = sym c.in-Some-begun_by.ensures in
     subst (Gives statement_kind_tree c.opened.result)
     (sym (ap (action_at c.args.depth) is
-    ∙ opened_is (block_in c.args.depth) c.in-Keyword.keyword c.in-Some.token.span.start c.in-Some-begun_by.opening (terminals c.in-Some.after) opening))
+    ∙ opened_is (block_in c.args.depth) c.in-Keyword.keyword c.in-Some.token.span.start c.in-Some-begun_by.statement_keyword (terminals c.in-Some.after) statement_keyword))
     c.opened.ensures.reads

@@ -7,7 +7,7 @@ use Rattle.typed_tree.specs.ProgramTree.{program_tree}
 use Rattle.typed_tree.proofs.Chains.{bool_expression_tree-Connect}
 use Rattle.plan_text.specs.Expressions.{comparison_word, condition_words, connective_word, integer_words, spaced}
 use Rattle.plan_text.specs.inside.Rows.{connected_words, times}
-use Rattle.plan_text.proofs.Rows.{bool_expression_tree-Not, words_connected, words_turned}
+use Rattle.plan_text.proofs.Rows.{bool_expression_tree-Not, words_connected, words_inverted}
 use Rattle.plan_text.proofs.Spaces.{put_after, still_left}
 use Rattle.plan_text.proofs.expressions.+conditions.Goals as goal
 
@@ -15,11 +15,11 @@ pub put_condition-returns-in_ok-put_condition-in-Not : goal.put_condition-return
 put_condition-returns-in_ok-put_condition-in-Not t c =
     let p = program_tree c.args.lines.program.now in
     let old = c.args.out.now.items in
-    let tree = ap bool_expression_tree c.in-Not.is ∙ bool_expression_tree-Not c.in-Not.turns c.in-Not.c in
+    let tree = ap bool_expression_tree c.in-Not.is ∙ bool_expression_tree-Not c.in-Not.nots c.in-Not.c in
     let inside = c.in_ok-put_condition-in-Not.ensures ∙ ap (λ e. old ++ spaced (condition_words p (bool_expression_tree e))) c.deref.ensures in
     on_ok_weaker c.put_times.result (λ is.
-    put_after old c.put_condition.new.out.items c.put_times.new.out.items (condition_words p (bool_expression_tree c.in-Not.c.value)) (times c.in-Not.turns (codes "not")) inside is
-    ∙ ap (λ ws. old ++ spaced ws) (sym (words_turned p c.in-Not.turns (bool_expression_tree c.in-Not.c.value)) ∙ ap (condition_words p) (sym tree)))
+    put_after old c.put_condition.new.out.items c.put_times.new.out.items (condition_words p (bool_expression_tree c.in-Not.c.value)) (times c.in-Not.nots (codes "not")) inside is
+    ∙ ap (λ ws. old ++ spaced ws) (sym (words_inverted p c.in-Not.nots (bool_expression_tree c.in-Not.c.value)) ∙ ap (condition_words p) (sym tree)))
     c.put_times.ensures
 
 pub put_condition-returns-in_ok-put_integer-in-Compare-2 : goal.put_condition-returns-in_ok-put_integer-in-Compare-2

@@ -7,7 +7,7 @@ use Rattle.expression_types.specs.Faults.{outcome, sure, ◌>>=◌}
 use Rattle.expression_types.proofs.Steps.{outcome_then}
 use Rattle.types.specs.Declaration.{declarations_typed}
 use Rattle.types.specs.inside.Declaration.{declared_of}
-use Rattle.types.specs.Program.{main_of, opening, program_tree_of, schedule_calls, set_count}
+use Rattle.types.specs.Program.{main_of, no_declarations, program_tree_of, schedule_calls, set_count}
 use Rattle.types.proofs.program.type_source.Goals as goal
 
 pub returns : goal.returns
@@ -19,12 +19,12 @@ returns c =
     let calls = schedule_calls source.schedule in
     let n = c.declare_all.new.first_fault in
     let m = c.main_in-main.new.first_fault in
-    let opened : declared_of c.empty-declared.result ≡ opening (set_count source.declarations) =
-    c.empty-declared.ensures ∙ ap opening (c.count_sets.ensures.count ∙ ap (λ xs. set_count (map declaration_tree xs)) c.deref.ensures.value) in
-    let declared : outcome c.args.first_fault.now (declarations_typed (opening (set_count source.declarations)) source.declarations) ≡ (d, n) =
+    let opened : declared_of c.empty-declared.result ≡ no_declarations (set_count source.declarations) =
+    c.empty-declared.ensures ∙ ap no_declarations (c.count_sets.ensures.count ∙ ap (λ xs. set_count (map declaration_tree xs)) c.deref.ensures.value) in
+    let declared : outcome c.args.first_fault.now (declarations_typed (no_declarations (set_count source.declarations)) source.declarations) ≡ (d, n) =
     subst (λ o. outcome c.args.first_fault.now (declarations_typed o source.declarations) ≡ (d, n)) opened
     (subst (λ xs. outcome c.args.first_fault.now (declarations_typed (declared_of c.empty-declared.result) (map declaration_tree xs)) ≡ (d, n)) c.deref-2.ensures.value c.in_ok-declare_all.ensures) in
-    outcome_then c.args.first_fault.now n (declarations_typed (opening (set_count source.declarations)) source.declarations) d
+    outcome_then c.args.first_fault.now n (declarations_typed (no_declarations (set_count source.declarations)) source.declarations) d
     (λ d. main_of length d.main >>= λ main. sure (program_tree_of d main calls)) declared
     ∙ outcome_then n m (main_of length d.main) main (λ main. sure (program_tree_of d main calls)) c.main_in-main.ensures.main
     ∙ ap (λ p. (p, m)) (sym (c.into_program.ensures

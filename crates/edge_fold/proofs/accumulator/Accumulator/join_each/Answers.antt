@@ -7,7 +7,7 @@ use Rattle.edge_fold.specs.inside.Contributions.{each_given}
 use Rattle.edge_fold.specs.Contributions.{reduced_at}
 use Rattle.edge_fold.specs.Held.{held_with}
 use Rattle.edge_fold.specs.FoldStarts.{combined_with_seed}
-use Rattle.edge_fold.specs.inside.FoldStarts.{opening_seed, start_of}
+use Rattle.edge_fold.specs.inside.FoldStarts.{initial_seed, start_of}
 use Rattle.edge_fold.proofs.Filled.{given_first}
 use Rattle.edge_fold.proofs.WeightColumns.{first_at, firsts-length}
 use Rattle.edge_fold.proofs.accumulator.Accumulator.join_each.Goals as goal
@@ -18,7 +18,7 @@ each-preserved g c = λ v h.
     let es = g.E.NeighbourEntries.entries a.destinations.now in
     let k = c.each.index in
     let number = to_z w64 (of_z w64 a.number) in
-    let now = held_with (combined_with_seed (start_of a.opening) a.reduction) c.each.self v (opening_seed a.opening v h) in
+    let now = held_with (combined_with_seed (start_of a.initial) a.reduction) c.each.self v (initial_seed a.initial v h) in
     let within : k < length es = omega (arith, c.each-test.true, c.len-index-end.ensures) in
     let count = firsts-length es in
     let more : k < length (firsts es) = omega (arith, within, count) in
@@ -31,8 +31,8 @@ returns g c v h =
     let fits : FitsSigned w64 a.number = search rules in
     let es = g.E.NeighbourEntries.entries a.destinations.now in
     let ds = firsts es in
-    let combine = combined_with_seed (start_of a.opening) a.reduction in
-    let o = opening_seed a.opening v h in
+    let combine = combined_with_seed (start_of a.initial) a.reduction in
+    let o = initial_seed a.initial v h in
     let count = firsts-length es in
     let past : length ds ≤ c.each.index = omega (arith, c.each-test.false, c.len-index-end.ensures, count) in
     let done : drop c.each.index ds ≡ [] = drop_all c.each.index ds past in

@@ -3,7 +3,7 @@ use Rattle.std.proofs.Common.{rules, ◌≡◌, ◌<◌, pos, length, get_or, to
 use Rattle.edge_fold.specs.inside.EntryNumbers.{number_with}
 use Rattle.edge_fold.specs.Held.{held_with}
 use Rattle.edge_fold.specs.FoldStarts.{combined_with_seed}
-use Rattle.edge_fold.specs.inside.FoldStarts.{opening_seed, start_of}
+use Rattle.edge_fold.specs.inside.FoldStarts.{initial_seed, start_of}
 use Rattle.edge_fold.proofs.EntryRows.{one_weight_more}
 use Rattle.edge_fold.proofs.accumulator.Accumulator.join_each_weight.Goals as goal
 
@@ -14,7 +14,7 @@ edges-preserved g c = λ v h.
     let es = g.E.NeighbourEntries.entries a.destinations.now in
     let f = number_with a.numbers in
     let within : k < length es = omega (arith, c.edges-test.true, c.len-index-end.ensures) in
-    let now = held_with (combined_with_seed (start_of a.opening) a.reduction) c.edges.self v (opening_seed a.opening v h) in
+    let now = held_with (combined_with_seed (start_of a.initial) a.reduction) c.edges.self v (initial_seed a.initial v h) in
     let number : to_z w64 (of_z w64 c.of-number.result) ≡ f (get_or es k (0, pos 1)).1 = search rules in
     one_weight_more a.reduction v f now _ k c.neighbour.result (to_z w64 (of_z w64 c.of-number.result)) es within c.neighbour.ensures number (c.in_ok-join.ensures v h)
     ∙ c.edges.invariant v h

@@ -6,7 +6,7 @@ use Rattle.vertex_marks.specs.Marks.{is_marked}
 use Rattle.edge_fold.specs.Between.{firsts}
 use Rattle.edge_fold.specs.inside.Contributions.{each_given}
 use Rattle.edge_fold.specs.Contributions.{reduced_at}
-use Rattle.edge_fold.specs.inside.FoldStarts.{opening_seed, start_of}
+use Rattle.edge_fold.specs.inside.FoldStarts.{initial_seed, start_of}
 use Rattle.edge_fold.proofs.Filled.{joined_either, written_back}
 use Rattle.edge_fold.proofs.accumulator.Accumulator.join_filled.Goals as goal
 
@@ -21,7 +21,7 @@ returns-clause-joined g c o v h =
     let ds = firsts (g.E.NeighbourEntries.entries c.args.destinations.now) in
     let rest = drop c.reduce_filled.result ds in
     let number = to_z-of_z w64 c.args.number fits in
-    let o' = opening_seed o v h in
+    let o' = initial_seed o v h in
     rw back (joined_either (start_of o) r v o' (get_or new v (pos 0)) (get_or old v (pos 0)) (each_given c.args.number rest) (each_given c.args.number ds) (is_marked self.marks v)
     (subst (λ (n : ℤ). reduced_at r v (get_or new v (pos 0)) (each_given n rest) ≡ reduced_at r v (get_or c.as_mut_slice.result.now v (pos 0)) (each_given n ds)) number
     (c.reduce_filled.ensures.reduced v)

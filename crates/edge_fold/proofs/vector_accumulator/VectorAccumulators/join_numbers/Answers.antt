@@ -6,7 +6,7 @@ use Rattle.edge_fold.specs.Gathered.{given_numbers}
 use Rattle.edge_fold.specs.Contributions.{reduced_at}
 use Rattle.edge_fold.specs.Held.{held_with}
 use Rattle.edge_fold.specs.FoldStarts.{combined_with_seed, first_entry}
-use Rattle.edge_fold.specs.inside.FoldStarts.{opening_seed, start_of}
+use Rattle.edge_fold.specs.inside.FoldStarts.{initial_seed, start_of}
 use Rattle.edge_fold.proofs.JoinedSlots.{along, equal, joined_slot}
 use Rattle.edge_fold.proofs.vector_accumulator.VectorAccumulators.join_numbers.Goals as goal
 
@@ -19,11 +19,11 @@ returns c x r own =
     let was : VectorAccumulator = c.index_mut.result.now in
     let few : now.used ≤ length now.slots.items = search rules in
     let at = c.in_ok-position.ensures.position in
-    let op = c.opening-opening in
+    let op = c.initial-initial in
     let combine = combined_with_seed (start_of op.result) of.reduction in
     let all = given_numbers of.numbers.items in
     let joined = λ (v : ℕ) (h : ℤ). c.in_ok-join_changes.ensures v h
-    ∙ ap (λ (cs : List EntryChange). reduced_at of.reduction v (held_with combine was.entries v (opening_seed op.result v h)) (given_numbers cs)) c.deref.ensures.value in
+    ∙ ap (λ (cs : List EntryChange). reduced_at of.reduction v (held_with combine was.entries v (initial_seed op.result v h)) (given_numbers cs)) c.deref.ensures.value in
     joined_slot f x of.vector p r c.args.self.now now _ was (record { vector = was.vector; reduction = was.reduction; entries = c.join_changes.new.self }) (cond (of.vector == x) all []) refl
     at.0 at.1 few c.index_mut.ensures.value refl refl c.in_ok-position.ensures.held (c.in_ok-position.ensures.reduction x r own)
     (λ v h same. along f x of.vector v of.reduction r (start_of op.result) was.entries c.join_changes.new.self h _ (λ _. all) (equal of.vector x same) (own (equal of.vector x same)) op.ensures.start

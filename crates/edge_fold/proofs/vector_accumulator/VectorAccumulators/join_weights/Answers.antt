@@ -8,7 +8,7 @@ use Rattle.edge_fold.specs.inside.EntryNumbers.{each_weighed}
 use Rattle.edge_fold.specs.Contributions.{reduced_at}
 use Rattle.edge_fold.specs.Held.{held_with}
 use Rattle.edge_fold.specs.FoldStarts.{combined_with_seed, first_entry}
-use Rattle.edge_fold.specs.inside.FoldStarts.{opening_seed, start_of}
+use Rattle.edge_fold.specs.inside.FoldStarts.{initial_seed, start_of}
 use Rattle.edge_fold.proofs.JoinedSlots.{along, equal, joined_slot}
 use Rattle.edge_fold.proofs.vector_accumulator.VectorAccumulators.join_weights.Goals as goal
 
@@ -25,10 +25,10 @@ returns g c x r own =
     let was : VectorAccumulator = c.index_mut.result.now in
     let few : now.used ≤ length now.slots.items = search rules in
     let at = c.in_ok-position.ensures.position in
-    let op = c.opening-opening in
+    let op = c.initial-initial in
     let combine = combined_with_seed (start_of op.result) of.reduction in
     let joined = λ (v : ℕ) (h : ℤ). c.in_ok-join_weights.ensures v h
-    ∙ ap (λ (n : ℤ). reduced_at of.reduction v (held_with combine was.entries v (opening_seed op.result v h)) (each_weighed (arithmetic of.operator n) es)) number in
+    ∙ ap (λ (n : ℤ). reduced_at of.reduction v (held_with combine was.entries v (initial_seed op.result v h)) (each_weighed (arithmetic of.operator n) es)) number in
     let all = each_weighed (arithmetic of.operator (entry f.vectors.now.vectors of.from source)) es in
     let given = cond (of.vector == x) all [] in
     joined_slot f x of.vector p r c.args.self.now now _ was (record { vector = was.vector; reduction = was.reduction; entries = c.join_weights.new.self }) given refl

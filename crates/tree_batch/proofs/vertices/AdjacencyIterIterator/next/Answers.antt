@@ -24,8 +24,8 @@ pub overflow_mul-result-2 : goal.overflow_mul-result-2
 overflow_mul-result-2 c =
     let later = c.match-self.self-inside.rest in
     let ok : AreGraphBlocks later = elim c.match-self.branch [
-      | in-Some+in_default-next w ↦ rw w.self-inside-is c.self.invariant.behind
-      | in_default w ↦ rw w.self-inside-is c.self.invariant.behind
+      | in-Some+in_default-next w ↦ rw w.self-inside-is c.self.invariant.later
+      | in_default w ↦ rw w.self-inside-is c.self.invariant.later
     ] in
     omega (arith, (block_begun later c.next-2.new.self c.in_ok-number.number c.in_ok-number.block.now ok c.in_ok-number.ensures.steps).number)
 
@@ -33,8 +33,8 @@ pub overflow_add-result-2 : goal.overflow_add-result-2
 overflow_add-result-2 c =
     let later = c.match-self.self-inside.rest in
     let ok : AreGraphBlocks later = elim c.match-self.branch [
-      | in-Some+in_default-next w ↦ rw w.self-inside-is c.self.invariant.behind
-      | in_default w ↦ rw w.self-inside-is c.self.invariant.behind
+      | in-Some+in_default-next w ↦ rw w.self-inside-is c.self.invariant.later
+      | in_default w ↦ rw w.self-inside-is c.self.invariant.later
     ] in
     let begun = block_begun later c.next-2.new.self c.in_ok-number.number c.in_ok-number.block.now ok c.in_ok-number.ensures.steps in
     omega (
@@ -47,8 +47,8 @@ pub invariant_of-self-2 : goal.invariant_of-self-2
 invariant_of-self-2 c =
     let later = c.match-self.self-inside.rest in
     let ok : AreGraphBlocks later = elim c.match-self.branch [
-      | in-Some+in_default-next w ↦ rw w.self-inside-is c.self.invariant.behind
-      | in_default w ↦ rw w.self-inside-is c.self.invariant.behind
+      | in-Some+in_default-next w ↦ rw w.self-inside-is c.self.invariant.later
+      | in_default w ↦ rw w.self-inside-is c.self.invariant.later
     ] in
     let begun = block_begun later c.next-2.new.self c.in_ok-number.number c.in_ok-number.block.now ok c.in_ok-number.ensures.steps in
     rest_left c.in_ok-number.number c.in_ok-number.block.now c.next-2.new.self c.in-Some-next-2.vertex c.in-Some-next-2.neighbours _ begun
