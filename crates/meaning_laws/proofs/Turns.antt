@@ -181,4 +181,5 @@ more_turns p g turns more le suffices =
     let d = more - turns in
     let sum : turns + d ≡ more = omega (arith, le) in
     subst (λ (n : ℕ). meaning p g n ≡ meaning p g turns) sum
-    (outcome_follows d p g turns (after_all p g p.main (initial_state p g turns)) (after_all p g p.main (initial_state p g (turns + d))) (block_follows d p g p.main (initial_state p g turns)) suffices)
+    (outcome_follows d p g turns (after_all p g p.main (initial_state p g turns)) (after_all p g p.main (initial_state p g (turns + d))) (block_follows d p g p.main
+    (initial_state p g turns)) suffices)

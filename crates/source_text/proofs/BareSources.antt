@@ -229,7 +229,8 @@ texts_bare [] rest = refl
 texts_bare (text ∷ texts) rest = ap (λ o. OfSymbol symbol.Comma ∷ Text text ∷ o) (texts_bare texts rest)
 
 call_bare : (call : CallTree) → BareBefore call_before bare_call call
-call_bare call rest = ap (λ o. LeadingKeyword (setting_keyword call.setting) 0 ∷ OfSymbol symbol.OpenParenthesis ∷ Text call.first ∷ o) (texts_bare (call.more) (OfSymbol symbol.CloseParenthesis ∷ rest))
+call_bare call rest =
+    ap (λ o. LeadingKeyword (setting_keyword call.setting) 0 ∷ OfSymbol symbol.OpenParenthesis ∷ Text call.first ∷ o) (texts_bare (call.more) (OfSymbol symbol.CloseParenthesis ∷ rest))
 
 next_call_bare : (call : CallTree) → BareBefore next_call_before bare_call call
 next_call_bare call rest = ap (λ o. OfSymbol symbol.Arrow ∷ o) (call_bare (call) (rest))

@@ -78,7 +78,8 @@ take_label i rest ws same =
     let back = label_back first.0 i (first.3) in
     (back.0, first.1, first.2 ∙ ap (λ w. w ∷ first.1) (back.1), first.4)
 
-pub take_leading_keyword : (terminal : Keyword) (at : ℕ) (rest ws : List Terminal) → AreAlike ws (LeadingKeyword terminal at ∷ rest) → (to : ℕ) × (others : List Terminal) × (ws ≡ LeadingKeyword terminal to ∷ others)
+pub take_leading_keyword : (terminal : Keyword) (at : ℕ) (rest ws : List Terminal) → AreAlike ws (LeadingKeyword terminal at ∷ rest)
+    → (to : ℕ) × (others : List Terminal) × (ws ≡ LeadingKeyword terminal to ∷ others)
     × AreAlike others rest
 take_leading_keyword terminal at rest ws same =
     let first = first_back (LeadingKeyword terminal at) rest ws same in

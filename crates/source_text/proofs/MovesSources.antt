@@ -157,7 +157,8 @@ mutual
             ∙ ap (λ o. LeadingKeyword (keyword.For) (m0.0) ∷ Name (m1.0) ∷ OfKeyword keyword.In ∷ o) (m3.2)
             ∙ ap (λ o. LeadingKeyword (keyword.For) (m0.0) ∷ Name (m1.0) ∷ OfKeyword keyword.In ∷ (expression_terminals (m3.0) ++ (o))) (m4.1)
             ∙ ap (λ o. LeadingKeyword (keyword.For) (m0.0) ∷ Name (m1.0) ∷ OfKeyword keyword.In ∷ (expression_terminals (m3.0) ++ (OfSymbol symbol.Colon ∷ o))) (m5.2)
-            ∙ ap (λ o. LeadingKeyword (keyword.For) (m0.0) ∷ Name (m1.0) ∷ OfKeyword keyword.In ∷ (expression_terminals (m3.0) ++ (OfSymbol symbol.Colon ∷ (expression_terminals (m5.0) ++ (o))))) (m6.2)
+            ∙ ap (λ o. LeadingKeyword (keyword.For) (m0.0) ∷ Name (m1.0) ∷ OfKeyword keyword.In ∷ (expression_terminals (m3.0) ++ (OfSymbol symbol.Colon ∷ (expression_terminals (m5.0) ++
+            (o))))) (m6.2)
             ∙ ap (λ o. LeadingKeyword (keyword.For) (m0.0) ∷ Name (m1.0) ∷ OfKeyword keyword.In ∷
             (expression_terminals (m3.0) ++ (OfSymbol symbol.Colon ∷ (expression_terminals (m5.0) ++ ((block_before (m6.0) (o))))))) (m7.1),
         m7.2,
@@ -174,7 +175,8 @@ mutual
         m3.2,
       )
   move_action (IfElse at test body otherwise) rest ws same =
-      let m0 = take_leading_keyword (keyword.If) (at) ((expression_terminals (test) ++ ((block_before (body) (OfKeyword keyword.Else ∷ (block_before (otherwise) (OfKeyword keyword.End ∷ rest))))))) ws same in
+      let m0 =
+      take_leading_keyword (keyword.If) (at) ((expression_terminals (test) ++ ((block_before (body) (OfKeyword keyword.Else ∷ (block_before (otherwise) (OfKeyword keyword.End ∷ rest))))))) ws same in
       let m1 = move_expression (test) ((block_before (body) (OfKeyword keyword.Else ∷ (block_before (otherwise) (OfKeyword keyword.End ∷ rest))))) m0.1 m0.3 in
       let m2 = move_block (body) (OfKeyword keyword.Else ∷ (block_before (otherwise) (OfKeyword keyword.End ∷ rest))) m1.1 m1.3 in
       let m3 = take_fixed (OfKeyword keyword.Else ∷ []) ((block_before (otherwise) (OfKeyword keyword.End ∷ rest))) m2.1 refl m2.3 in
@@ -333,7 +335,8 @@ move_declaration (Function at name parameters result body) rest ws same =
           ∙ ap (λ o. LeadingKeyword (keyword.Func) (m0.0) ∷ Name (m1.0) ∷ OfSymbol symbol.OpenParenthesis ∷ o) (m3.2)
           ∙ ap (λ o. LeadingKeyword (keyword.Func) (m0.0) ∷ Name (m1.0) ∷ OfSymbol symbol.OpenParenthesis ∷ (parameters_before (m3.0) (o))) (m4.1)
           ∙ ap (λ o. LeadingKeyword (keyword.Func) (m0.0) ∷ Name (m1.0) ∷ OfSymbol symbol.OpenParenthesis ∷ (parameters_before (m3.0) (OfSymbol symbol.CloseParenthesis ∷ o))) (m5.2)
-          ∙ ap (λ o. LeadingKeyword (keyword.Func) (m0.0) ∷ Name (m1.0) ∷ OfSymbol symbol.OpenParenthesis ∷ (parameters_before (m3.0) (OfSymbol symbol.CloseParenthesis ∷ (result_before (m5.0) (o))))) (m6.2)
+          ∙ ap (λ o. LeadingKeyword (keyword.Func) (m0.0) ∷ Name (m1.0) ∷ OfSymbol symbol.OpenParenthesis ∷ (parameters_before (m3.0) (OfSymbol symbol.CloseParenthesis ∷ (result_before
+          (m5.0) (o))))) (m6.2)
           ∙ ap (λ o. LeadingKeyword (keyword.Func) (m0.0) ∷ Name (m1.0) ∷ OfSymbol symbol.OpenParenthesis ∷
           (parameters_before (m3.0) (OfSymbol symbol.CloseParenthesis ∷ (result_before (m5.0) ((block_before (m6.0) (o))))))) (m7.1),
       m7.2,

@@ -295,7 +295,8 @@ declarations_meet d (source.Function at name parameters result body ∷ others) 
     (declarations_meet e.value others (no_right e.faults rest.faults none))
 
 program_meets : (source : SourceTree) (length : ℕ) → (program_of source length).faults ≡ []
-    → Meets (no_declarations (set_count source.declarations)).checker (declarations_typed (no_declarations (set_count source.declarations)) source.declarations).value.checker (labels_of source.declarations)
+    → Meets (no_declarations (set_count source.declarations)).checker (declarations_typed (no_declarations (set_count source.declarations)) source.declarations).value.checker
+    (labels_of source.declarations)
 program_meets source length none =
     let start = no_declarations (set_count source.declarations) in
     declarations_meet start source.declarations (no_left (declarations_typed start source.declarations).faults _ none)

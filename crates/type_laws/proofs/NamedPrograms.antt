@@ -653,7 +653,8 @@ program_holds source length none =
     let d = declarations_typed start source.declarations in
     let counted = sets_counted start source.declarations in
     let within : IsWithin p d.value = record { names = λ k x is. is; sets = λ k x is. is; functions = λ k x is. is } in
-    main_holds p length d.value.main (declarations_fit p start source.declarations (no_left d.faults _ none) within (no_declarations_fit p (set_count source.declarations) (omega (arith, counted)))).main
+    main_holds p length d.value.main (declarations_fit p start source.declarations (no_left d.faults _ none) within (no_declarations_fit p (set_count source.declarations) (omega
+    (arith, counted)))).main
 
 pub names_sets_apart : (source : SourceTree) (length : ℕ) → (program_of source length).faults ≡ [] → NamesSetsApart (program_of source length).value
 names_sets_apart source length none =

@@ -1,3 +1,4 @@
+-- Proofs of `chosen`, src/among.rt.
 use Rattle.std.proofs.Common.{◌≡◌, ℕ, true, Option, sym, ◌∙◌, subst}
 use Rattle.std.proofs.lemmas.Result.{IfOk-weaker}
 use Rattle.kernels.specs.declared.endpoint_filter.EndpointFilter.{EndpointFilter}

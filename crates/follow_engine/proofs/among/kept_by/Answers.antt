@@ -1,3 +1,4 @@
+-- Proofs of `kept_by`, src/among.rt.
 use Rattle.std.proofs.Common.{◌++◌, ℕ, List, sym, ap, ◌∙◌, subst}
 use Rattle.std.specs.List.{filter}
 use Rattle.kernels.specs.Registers.{HasSizes}

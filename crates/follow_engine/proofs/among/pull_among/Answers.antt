@@ -1,3 +1,4 @@
+-- Proofs of `pull_among`, src/among.rt.
 use Rattle.std.proofs.Common.{List, refl, ap, ◌∙◌, arith}
 use Rattle.std.proofs.lemmas.Result.{IfOk-weaker}
 use Rattle.kernels.specs.EdgeApply.{after_edges, is_member}

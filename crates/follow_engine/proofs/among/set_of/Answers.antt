@@ -1,3 +1,4 @@
+-- Proofs of `set_of`, src/among.rt.
 use Rattle.std.proofs.Common.{◌<◌, ◌≤◌, ℕ, List, [], length, get_or, ap, ◌∙◌, arith}
 use Rattle.std.proofs.lemmas.List.{take_all}
 use Rattle.kernels.specs.EdgeApply.{is_member}

@@ -1,3 +1,4 @@
+-- Proofs of `follow`, src/following.rt.
 use Rattle.std.proofs.Common.{rules, ◌≡◌, nat_le, inr, true, false, ℕ, List, sym, ap, ◌∙◌, subst}
 use Rattle.edge_fold.specs.Changed.{changes_of}
 use Rattle.std.proofs.lemmas.Bool.{leb-false, leb-true}

@@ -1,3 +1,4 @@
+-- Proofs of `end_may_pass`, src/reached.rt.
 use Rattle.std.proofs.Common.{Some, sym, ap, ◌∙◌}
 use Rattle.kernels.specs.declared.endpoint_filter.EndpointFilter.{EndpointFilter}
 use Rattle.edge_fold.proofs.Findings.{member_is}

@@ -1,3 +1,4 @@
+-- Proofs of `mark_all`, src/reached.rt.
 use Rattle.std.proofs.Common.{◌==◌, ◌∙◌}
 use Rattle.vertex_marks.specs.Marks.{is_marked}
 use Rattle.follow_engine.proofs.Marked.{tested_all, tested_more}

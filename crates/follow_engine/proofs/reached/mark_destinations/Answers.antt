@@ -1,3 +1,4 @@
+-- Proofs of `mark_destinations`, src/reached.rt.
 use Rattle.std.proofs.Common.{ℕ, ◌==◌, ◌&&◌, ◌||◌, ◌∙◌}
 use Rattle.vertex_marks.specs.Marks.{is_marked}
 use Rattle.follow_engine.specs.Reached.{may_pass}

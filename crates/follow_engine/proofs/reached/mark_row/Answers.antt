@@ -1,3 +1,4 @@
+-- Proofs of `mark_row`, src/reached.rt.
 use Rattle.std.proofs.Common.{ℕ, ℤ, ◌==◌, ◌||◌, Bool, List, refl, ap, ◌∙◌}
 use Rattle.std.specs.List.{list_any}
 use Rattle.vertex_marks.specs.Marks.{is_marked}

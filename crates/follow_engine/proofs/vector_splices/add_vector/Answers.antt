@@ -1,3 +1,4 @@
+-- Proofs of `add_vector`, src/vector_splices.rt.
 use Rattle.std.proofs.Common.{rules, ◌≡◌, true, false, List, sym, ap, ap₂, ◌∙◌, subst}
 use Rattle.vectors.specs.declared.changes.EntryChange.{EntryChange}
 use Rattle.vectors.specs.declared.changes.VectorChanges.{VectorChanges}

@@ -1,3 +1,4 @@
+-- Proofs of `add_vectors`, src/vector_splices.rt.
 use Rattle.std.proofs.Common.{◌≤◌, length, sym, ap, ◌∙◌}
 use Rattle.std.proofs.lemmas.List.{take_all}
 use Rattle.edge_fold.specs.Changed.{changes_of}

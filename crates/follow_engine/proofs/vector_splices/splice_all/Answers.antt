@@ -1,3 +1,4 @@
+-- Proofs of `splice_all`, src/vector_splices.rt.
 use Rattle.std.proofs.Common.{◌≡◌, [], List, refl, sym, ap, ap₂, ◌∙◌, subst}
 use Rattle.vectors.specs.declared.changes.EntryChange.{EntryChange}
 use Rattle.vectors.specs.declared.changes.VectorChanges.{VectorChanges}
