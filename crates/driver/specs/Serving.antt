@@ -25,12 +25,6 @@ abbrev pub script_end_of : Result Bool ScriptError → Result Bool ServeError
 script_end_of (Ok faulted) = Ok faulted
 script_end_of (Err e) = Err (of_script e)
 
--- the standard input was run as a script without programs, with this end
-pub record RunsInput (old new : Input) (before after : Written) (ended : Result Bool ServeError) : Type 0 where
-  pub script_ended : Result Bool ScriptError
-  pub runs : RunsScript [] old new before after script_ended
-  pub ending : ended ≡ script_end_of script_ended
-
 -- the output for a program that compiles: `ok` and a line feed (10)
 abbrev pub ok_line : List ℕ
 ok_line = codes "ok" ++ 10 ∷ []
@@ -132,12 +126,6 @@ RunsStream holds fails names old new before after (Ok faulted) = RunsStreamOf ho
 RunsStream holds fails names old new before after (Err e) =
     RunsNoStream holds fails names old new before after e ⊎ RunsStreamOf holds names old new before after (Err e)
 
--- the standard input was run, with this status at the end
-pub record ServesInput (old new : Input) (before after : Written) (status : ℕ) : Type 0 where
-  pub ended : Result Bool ServeError
-  pub runs : RunsInput old new before after ended
-  pub ending : status ≡ status_of_end ended
-
 -- the program in the file of this name was checked, with this status at the end; the standard input was not read
 pub record ServesCheck (holds : List ℕ → List ℕ → Type 0) (fails : List ℕ → Error → Type 0) (name : List ℕ) (old new : Input) (before after : Written)
     (status : ℕ) : Type 0 where
@@ -175,9 +163,9 @@ abbrev pub ServesScript : (is_stream : Bool) → (List ℕ → List ℕ → Type
 ServesScript true holds fails script names old new before after status = ServesStream holds fails names old new before after status
 ServesScript false holds fails script names old new before after status = ServesFiles holds fails script names old new before after status
 
--- the outcome of serving a request
+-- the outcome of serving a request; the input is run as a script without programs
 abbrev pub Serves : (List ℕ → List ℕ → Type 0) → (List ℕ → Error → Type 0) → Request → Input → Input → Written → Written → ℕ → Type 0
-Serves holds fails request.Input old new before after status = ServesInput old new before after status
+Serves holds fails request.Input old new before after status = ServesStream holds fails [] old new before after status
 Serves holds fails (request.Check file) old new before after status = ServesCheck holds fails file.now old new before after status
 Serves holds fails (request.Plan file) old new before after status = ServesPlan holds fails file.now old new before after status
 Serves holds fails (request.Script script names) old new before after status =

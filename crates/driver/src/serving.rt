@@ -5,7 +5,7 @@ ghost use Rattle.crew.specs.Outcome.{AreWorkers};
 ghost use Rattle.driver.specs.inside.Programs.{ShowsMeaning};
 ghost use Rattle.scripts.specs.Script.{input as input_of, taken_by_writer, RunsScript};
 ghost use Rattle.driver.specs.inside.Reading.{CompilesFile, CompilesFiles};
-ghost use Rattle.driver.specs.Serving.{script_end_of, ChecksFile, PrintsPlan, RunsFiles, RunsInput, RunsStream, Serves};
+ghost use Rattle.driver.specs.Serving.{script_end_of, ChecksFile, PrintsPlan, RunsFiles, RunsStream, Serves};
 
 use crate::compiled_plan::CompiledPlan;
 use crate::error::ServeError;
@@ -60,8 +60,9 @@ pub fn serve<T: Threads + Wait + Sync, F: Files, R: Feed, W: Drain, E: Drain>(
     let refused = &RefusedLines::new();
     match request {
         Request::Input => {
-            let (ended, state) = run_input(rt, alloc, input, out);
-            (told(alloc, ended, None, files, err), Some(state))
+            let programs = ProgramFiles::new(&[], first_fault, refused);
+            let (ended, state) = run_stream(rt, alloc, programs, files, input, out);
+            (told(alloc, ended, None, files, err), state)
         }
         Request::Check { file } => {
             let ended = check_file(alloc, file, files, out);
@@ -100,33 +101,6 @@ pub fn serve<T: Threads + Wait + Sync, F: Files, R: Feed, W: Drain, E: Drain>(
             (told(alloc, ended, Some(programs), files, err), None)
         }
     }
-}
-
-// Runs the standard input as a script without programs.
-fn run_input<'a, T: Threads + Sync, R: Feed, W: Drain>(
-    rt: &T,
-    alloc: Global,
-    input: &mut R,
-    out: &mut W,
-) -> (Result<bool, ServeError<'a>>, ScriptState)
-    ensures { RunsInput
-        (input_of (R.bytes_read input.old) (R.ended input.old) (R.failures input.old))
-        (input_of (R.bytes_read input.new) (R.ended input.new) (R.failures input.new))
-        (taken_by_writer (W.bytes_written out.old) (W.failures out.old))
-        (taken_by_writer (W.bytes_written out.new) (W.failures out.new)) result.0 }
-{
-    let first_fault = &FirstFault::new();
-    let refused = &RefusedLines::new();
-    let programs = CompiledPrograms::new(
-        Vec::new(alloc),
-        refused,
-        |alloc: Global, order: RunOrder<'_>| -> Result<Outcome, AllocError>
-            requires { AreWorkers order.workers }
-            ensures { IfOk result (ShowsMeaning order.entry) }
-        { run_by_workers(rt, alloc, order, first_fault) },
-    );
-    let (ended, state) = script(alloc, &programs, input, out);
-    (ended_as(ended), state)
 }
 
 // The end of a script, with the errors of requests.

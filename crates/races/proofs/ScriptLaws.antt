@@ -54,8 +54,7 @@ changed programs lines leaves (Some command.Commit) o bs e = committed programs 
 changed programs lines leaves (Some (command.Vertices n b)) o bs e = absurd (none≢some bs e)
 changed programs lines leaves (Some (command.Hold version)) o bs e = absurd (none≢some bs e)
 changed programs lines leaves (Some (command.Release ticket)) o bs e = absurd (none≢some bs e)
-changed programs lines leaves (Some command.Edges) o bs e = absurd (none≢some bs e)
-changed programs lines leaves (Some (command.EdgesOf ticket)) o bs e = absurd (none≢some bs e)
+changed programs lines leaves (Some (command.Edges ticket)) o bs e = absurd (none≢some bs e)
 changed programs lines leaves (Some (command.Run program turns workers ticket)) o bs e = absurd (none≢some bs e)
 
 all_left : (programs : List ProgramTree) (lines : List (List ℕ)) → Leaves programs lines
@@ -97,8 +96,7 @@ first_line programs lines (Some (command.Grow vertices)) o e may = absurd (none�
 first_line programs lines (Some command.Commit) o e may = absurd (none≢some o e)
 first_line programs lines (Some (command.Hold version)) o e may = absurd (none≢some o e)
 first_line programs lines (Some (command.Release ticket)) o e may = absurd (none≢some o e)
-first_line programs lines (Some command.Edges) o e may = absurd (none≢some o e)
-first_line programs lines (Some (command.EdgesOf ticket)) o e may = absurd (none≢some o e)
+first_line programs lines (Some (command.Edges ticket)) o e may = absurd (none≢some o e)
 first_line programs lines (Some (command.Run program turns workers ticket)) o e may = absurd (none≢some o e)
 
 -- the lines of an order

@@ -5,7 +5,7 @@ use Rattle.std.specs.Char.{is_ascii_digit}
 use Rattle.std.specs.List.{AllByRecursion, AllZip, join_with_byte, list_all}
 use Rattle.std.specs.Str.{all_ascii_digits}
 use Rattle.scripts.specs.declared.commands.Command.{Command}
-use Rattle.scripts.specs.declared.commands.Command.TheVariants.{Vertices, Add, Remove, Grow, Commit, Hold, Release, Edges, EdgesOf, Run}
+use Rattle.scripts.specs.declared.commands.Command.TheVariants.{Vertices, Add, Remove, Grow, Commit, Hold, Release, Edges, Run}
 use Rattle.scripts.specs.Commands.{command_of, command_of_words, AreParts, HasNone, words_of}
 use Rattle.scripts.proofs.PieceLaws.{join_with_byte-pieces, pieces-join_with_byte}
 use Rattle.script_laws.specs.Spelling.{AreArguments, AreAt, AreEdge, HasWords, IsInRange, IsInteger, IsNumber, command_name, spelling_of}
@@ -70,8 +70,8 @@ arguments_only Commit words are = no_words words are
 arguments_only (Hold None) words are = no_words words are
 arguments_only (Hold (Some k)) words are = at_only k words are
 arguments_only (Release k) words are = numbers_only (2 ^ 64) (k ∷ []) words (omega arith) are
-arguments_only Edges words are = no_words words are
-arguments_only (EdgesOf k) words are = numbers_only (2 ^ 64) (k ∷ []) words (omega arith) are
+arguments_only (Edges None) words are = no_words words are
+arguments_only (Edges (Some k)) words are = numbers_only (2 ^ 64) (k ∷ []) words (omega arith) are
 arguments_only (Run p t w None) words are = numbers_only (2 ^ 64) (p ∷ t ∷ w ∷ []) words (omega arith) are
 arguments_only (Run p t w (Some k)) words are = numbers_only (2 ^ 64) (p ∷ t ∷ w ∷ k ∷ []) words (omega arith) are
 
@@ -83,8 +83,7 @@ name_only (Grow n) = looked_at (codes "grow") refl
 name_only Commit = looked_at (codes "commit") refl
 name_only (Hold version) = looked_at (codes "hold") refl
 name_only (Release k) = looked_at (codes "release") refl
-name_only Edges = looked_at (codes "edges") refl
-name_only (EdgesOf k) = looked_at (codes "edges") refl
+name_only (Edges k) = looked_at (codes "edges") refl
 name_only (Run p t w k) = looked_at (codes "run") refl
 
 are_parts : (c : Command) (words : List (List ℕ)) → HasWords c words → AreParts 32 words

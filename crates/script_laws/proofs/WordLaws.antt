@@ -9,8 +9,8 @@ use Rattle.weighted_edges.specs.Edge.{unit_weight}
 use Rattle.decimal.specs.Numbers.{number_of}
 use Rattle.decimal.proofs.NumberLaws.{integer-read_back}
 use Rattle.scripts.specs.declared.commands.Command.{Command}
-use Rattle.scripts.specs.declared.commands.Command.TheVariants.{Vertices, Add, Remove, Grow, Commit, Hold, Release, Edges, EdgesOf, Run}
-use Rattle.scripts.specs.Commands.{add_of, alone, command_of_words, edges_of, grow_of, hold_of, one_number, remove_of, run_of, ticket_of, vertices_of, weight_of, with_numbers}
+use Rattle.scripts.specs.declared.commands.Command.TheVariants.{Vertices, Add, Remove, Grow, Commit, Hold, Release, Edges, Run}
+use Rattle.scripts.specs.Commands.{add_of, alone, command_of_words, grow_of, hold_of, one_number, remove_of, run_of, ticket_of, vertices_of, weight_of, with_numbers}
 use Rattle.script_laws.specs.Spelling.{AreArguments, AreAt, AreEdge, AreLong, AreShort, HasWords, IsInRange, IsNumber, command_name, spelling_of}
 use Rattle.script_laws.proofs.DigitLaws.{integer_is, number_is}
 use Rattle.script_laws.proofs.Options.{and_some, map_some}
@@ -113,11 +113,12 @@ release_read words c is =
     let one = map_some Release (one_number words) c is in
     subst (Says (codes "release") words) one.2 (refl, one_read words one.0 one.1)
 
-edges_read : (words : List (List ℕ)) (c : Command) → edges_of words ≡ Some c → Says (codes "edges") words c
-edges_read [] c is = let same : Edges ≡ c = cc in subst (Says (codes "edges") []) same (refl, refl)
+edges_read : (words : List (List ℕ)) (c : Command) → option_map Edges (ticket_of words) ≡ Some c → Says (codes "edges") words c
+edges_read [] c is = let same : Edges None ≡ c = cc in subst (Says (codes "edges") []) same (refl, refl)
 edges_read (word ∷ words) c is =
-    let one = map_some EdgesOf (one_number (word ∷ words)) c is in
-    subst (Says (codes "edges") (word ∷ words)) one.2 (refl, one_read (word ∷ words) one.0 one.1)
+    let ticket = map_some Edges (ticket_of (word ∷ words)) c is in
+    let one = map_some Some (one_number (word ∷ words)) ticket.0 ticket.1 in
+    subst (Says (codes "edges") (word ∷ words)) (ap Edges one.2 ∙ ticket.2) (refl, one_read (word ∷ words) one.0 one.1)
 
 ticket_read : (p t w : ℕ) (k : Option ℕ) (a b d : List ℕ) (words : List (List ℕ)) → IsNumber (2 ^ 64) p a → IsNumber (2 ^ 64) t b → IsNumber (2 ^ 64) w d → ticket_of words ≡ Some k
     → AreArguments (Run p t w k) (a ∷ b ∷ d ∷ words)
@@ -163,7 +164,7 @@ command_read (name ∷ words) c is = elim (choice (bytes_eq name (codes "vertice
             | inl here ↦ named (codes "hold") name words c here.0 (hold_read words c here.1)
             | inr g ↦ elim (choice (bytes_eq name (codes "release")) (option_map Release (one_number words)) _ c g.1) [
               | inl here ↦ named (codes "release") name words c here.0 (release_read words c here.1)
-              | inr h ↦ elim (choice (bytes_eq name (codes "edges")) (edges_of words) _ c h.1) [
+              | inr h ↦ elim (choice (bytes_eq name (codes "edges")) (option_map Edges (ticket_of words)) _ c h.1) [
                 | inl here ↦ named (codes "edges") name words c here.0 (edges_read words c here.1)
                 | inr i ↦ elim (choice (bytes_eq name (codes "run")) (run_of words) _ c i.1) [
                   | inl here ↦ named (codes "run") name words c here.0 (run_read words c here.1)
@@ -222,9 +223,9 @@ at_spelled : (k : ℕ) (words : List (List ℕ)) → AreAt k words → hold_of w
 at_spelled k [] are = absurd are
 at_spelled k (word ∷ words) are = ap (λ (w : List ℕ). hold_of (w ∷ words)) are.0 ∙ ap (option_map (λ (n : ℕ). Hold (Some n))) (one_spelled words k are.1)
 
-edges_spelled : (k : ℕ) (words : List (List ℕ)) → AreLong (k ∷ []) words → edges_of words ≡ Some (EdgesOf k)
+edges_spelled : (k : ℕ) (words : List (List ℕ)) → AreLong (k ∷ []) words → option_map Edges (ticket_of words) ≡ Some (Edges (Some k))
 edges_spelled k [] are = absurd are
-edges_spelled k (word ∷ words) are = ap (option_map EdgesOf) (one_spelled (word ∷ words) k are)
+edges_spelled k (word ∷ words) are = ap (λ (o : Option ℕ). option_map Edges (option_map Some o)) (one_spelled (word ∷ words) k are)
 
 ran_spelled : (p t w : ℕ) (k : Option ℕ) (a b d : List ℕ) (words : List (List ℕ)) → IsNumber (2 ^ 64) p a → IsNumber (2 ^ 64) t b → IsNumber (2 ^ 64) w d → ticket_of words ≡ Some k
     → run_of (a ∷ b ∷ d ∷ words) ≡ Some (Run p t w k)
@@ -259,8 +260,8 @@ arguments_spelled Commit words are = ap (alone Commit) are
 arguments_spelled (Hold None) words are = ap hold_of are
 arguments_spelled (Hold (Some k)) words are = at_spelled k words are
 arguments_spelled (Release k) words are = ap (option_map Release) (one_spelled words k are)
-arguments_spelled Edges words are = ap edges_of are
-arguments_spelled (EdgesOf k) words are = edges_spelled k words are
+arguments_spelled (Edges None) words are = ap (λ (ws : List (List ℕ)). option_map Edges (ticket_of ws)) are
+arguments_spelled (Edges (Some k)) words are = edges_spelled k words are
 arguments_spelled (Run p t w None) words are = newest_spelled p t w words are
 arguments_spelled (Run p t w (Some k)) words are = held_spelled p t w k words are
 
@@ -287,8 +288,8 @@ spelling_is Commit are = refl
 spelling_is (Hold None) are = refl
 spelling_is (Hold (Some k)) are = at_spelled k (codes "at" ∷ decimal k ∷ []) (refl, (long_digits k are, tt))
 spelling_is (Release k) are = ap (option_map Release) (one_spelled (decimal k ∷ []) k (long_digits k are, tt))
-spelling_is Edges are = refl
-spelling_is (EdgesOf k) are = edges_spelled k (decimal k ∷ []) (long_digits k are, tt)
+spelling_is (Edges None) are = refl
+spelling_is (Edges (Some k)) are = edges_spelled k (decimal k ∷ []) (long_digits k are, tt)
 spelling_is (Run p t w None) are = newest_spelled p t w (decimal p ∷ decimal t ∷ decimal w ∷ []) (long_digits p are.0, (long_digits t are.1, (long_digits w are.2, tt)))
 spelling_is (Run p t w (Some k)) are = held_spelled p t w k (decimal p ∷ decimal t ∷ decimal w ∷ decimal k ∷ [])
     (long_digits p are.0, (long_digits t are.1, (long_digits w are.2, (long_digits k are.3, tt))))

@@ -5,7 +5,7 @@ use Rattle.std.specs.Int.{w64}
 use Rattle.std.specs.List.{AllZip}
 use Rattle.weighted_edges.specs.Edge.{unit_weight}
 use Rattle.scripts.specs.declared.commands.Command.{Command}
-use Rattle.scripts.specs.declared.commands.Command.TheVariants.{Vertices, Add, Remove, Grow, Commit, Hold, Release, Edges, EdgesOf, Run}
+use Rattle.scripts.specs.declared.commands.Command.TheVariants.{Vertices, Add, Remove, Grow, Commit, Hold, Release, Edges, Run}
 
 -- the word is the decimal digits of n, which is below the limit, after any zeros
 pub record IsNumber (limit n : ℕ) (word : List ℕ) : Type 0 where
@@ -36,8 +36,7 @@ command_name (Grow vertices) = codes "grow"
 command_name Commit = codes "commit"
 command_name (Hold version) = codes "hold"
 command_name (Release ticket) = codes "release"
-command_name Edges = codes "edges"
-command_name (EdgesOf ticket) = codes "edges"
+command_name (Edges ticket) = codes "edges"
 command_name (Run program turns workers ticket) = codes "run"
 
 -- the source, the destination and the weight of an edge, which may be left out where it is 1
@@ -61,8 +60,8 @@ AreArguments Commit words = words ≡ []
 AreArguments (Hold None) words = words ≡ []
 AreArguments (Hold (Some version)) words = AreAt version words
 AreArguments (Release ticket) words = AreLong (ticket ∷ []) words
-AreArguments Edges words = words ≡ []
-AreArguments (EdgesOf ticket) words = AreLong (ticket ∷ []) words
+AreArguments (Edges None) words = words ≡ []
+AreArguments (Edges (Some ticket)) words = AreLong (ticket ∷ []) words
 AreArguments (Run program turns workers None) words = AreLong (program ∷ turns ∷ workers ∷ []) words
 AreArguments (Run program turns workers (Some ticket)) words = AreLong (program ∷ turns ∷ workers ∷ ticket ∷ []) words
 
@@ -81,8 +80,8 @@ IsInRange Commit = Unit {0}
 IsInRange (Hold None) = Unit {0}
 IsInRange (Hold (Some version)) = version < 2 ^ 64
 IsInRange (Release ticket) = ticket < 2 ^ 64
-IsInRange Edges = Unit {0}
-IsInRange (EdgesOf ticket) = ticket < 2 ^ 64
+IsInRange (Edges None) = Unit {0}
+IsInRange (Edges (Some ticket)) = ticket < 2 ^ 64
 IsInRange (Run program turns workers None) = (program < 2 ^ 64) × (turns < 2 ^ 64) × (workers < 2 ^ 64)
 IsInRange (Run program turns workers (Some ticket)) = (program < 2 ^ 64) × (turns < 2 ^ 64) × (workers < 2 ^ 64) × (ticket < 2 ^ 64)
 
@@ -96,7 +95,7 @@ spelling_of Commit = codes "commit" ∷ []
 spelling_of (Hold None) = codes "hold" ∷ []
 spelling_of (Hold (Some version)) = codes "hold" ∷ codes "at" ∷ decimal version ∷ []
 spelling_of (Release ticket) = codes "release" ∷ decimal ticket ∷ []
-spelling_of Edges = codes "edges" ∷ []
-spelling_of (EdgesOf ticket) = codes "edges" ∷ decimal ticket ∷ []
+spelling_of (Edges None) = codes "edges" ∷ []
+spelling_of (Edges (Some ticket)) = codes "edges" ∷ decimal ticket ∷ []
 spelling_of (Run program turns workers None) = codes "run" ∷ decimal program ∷ decimal turns ∷ decimal workers ∷ []
 spelling_of (Run program turns workers (Some ticket)) = codes "run" ∷ decimal program ∷ decimal turns ∷ decimal workers ∷ decimal ticket ∷ []

@@ -6,7 +6,7 @@ use Rattle.std.specs.List.{AllByRecursion, onto_first, join_with_byte}
 use Rattle.decimal.specs.Numbers.{number_of, integer_of}
 use Rattle.weighted_edges.specs.Edge.{unit_weight}
 use Rattle.scripts.specs.declared.commands.Command.{Command}
-use Rattle.scripts.specs.declared.commands.Command.TheVariants.{Vertices, Add, Remove, Grow, Commit, Hold, Release, Edges, EdgesOf, Run}
+use Rattle.scripts.specs.declared.commands.Command.TheVariants.{Vertices, Add, Remove, Grow, Commit, Hold, Release, Edges, Run}
 
 -- whether the word is spelled so, byte for byte
 infix 12 ◌is◌
@@ -58,11 +58,6 @@ abbrev pub hold_of : List (List ℕ) → Option Command
 hold_of [] = Some (Hold None)
 hold_of (at ∷ words) = if at is codes "at" then option_map (λ k. Hold (Some k)) (one_number words) else None
 
--- "edges" and "edges T"
-abbrev pub edges_of : List (List ℕ) → Option Command
-edges_of [] = Some Edges
-edges_of (word ∷ words) = option_map EdgesOf (one_number (word ∷ words))
-
 -- the ticket that one word is, which may be left out
 abbrev pub ticket_of : List (List ℕ) → Option (Option ℕ)
 ticket_of [] = Some None
@@ -92,7 +87,7 @@ command_of_words (name ∷ words) =
     if name is codes "commit" then alone Commit words else
     if name is codes "hold" then hold_of words else
     if name is codes "release" then option_map Release (one_number words) else
-    if name is codes "edges" then edges_of words else
+    if name is codes "edges" then option_map Edges (ticket_of words) else
     if name is codes "run" then run_of words else
     None
 

@@ -128,8 +128,7 @@ on_open programs o (command.Grow vertices) = joined o (entry.Grow vertices)
 on_open programs o command.Commit = stepping o (step.Commit o.pending) []
 on_open programs o (command.Hold version) = stepping o (step.Acquire (which_of version)) o.pending
 on_open programs o (command.Release ticket) = stepping o (step.Release ticket) o.pending
-on_open programs o command.Edges = listing o (graph_of o.versions None)
-on_open programs o (command.EdgesOf ticket) = listing o (graph_of o.versions (Some ticket))
+on_open programs o (command.Edges ticket) = listing o (graph_of o.versions ticket)
 on_open programs o (command.Run program turns workers ticket) = running o turns workers (program_of programs program) (graph_of o.versions ticket)
 
 -- the graph stays open

@@ -36,11 +36,9 @@ pub enum Command {
     Release {
         ticket: u64,
     },
-    /// `edges`: the edges of the newest version.
-    Edges,
-    /// `edges T`: the edges of the version that a ticket holds.
-    EdgesOf {
-        ticket: u64,
+    /// `edges` or `edges T`: the edges of the newest version, or of the one that a ticket holds.
+    Edges {
+        ticket: Option<u64>,
     },
     /// `run P TURNS W` or `run P TURNS W T`: a program's number, a bound of turns, a number of workers,
     /// and the ticket that holds the version to run on, or none for the newest.

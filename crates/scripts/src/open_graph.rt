@@ -119,8 +119,7 @@ impl OpenGraph {
             Command::Commit => host.reply(self.commit(host.alloc), replies),
             Command::Hold { version } => host.reply(self.hold(version), replies),
             Command::Release { ticket } => host.reply(self.release(ticket), replies),
-            Command::Edges => self.list(host, None, replies),
-            Command::EdgesOf { ticket } => self.list(host, Some(ticket), replies),
+            Command::Edges { ticket } => self.list(host, ticket, replies),
             Command::Run {
                 program,
                 turns,

@@ -1,8 +1,8 @@
 //! Command parser: the command of a line.
 ghost use Rattle.std.specs.Prelude.{◌≡◌, ◌∷◌};
 ghost use Rattle.std.specs.Option.{option_map};
-ghost use Rattle.scripts.specs.declared.commands.Command.TheVariants.{Commit, Release};
-ghost use Rattle.scripts.specs.Commands.{command_of, command_of_words, vertices_of, add_of, weight_of, remove_of, grow_of, alone, hold_of, edges_of, run_of, ticket_of, one_number};
+ghost use Rattle.scripts.specs.declared.commands.Command.TheVariants.{Commit, Edges, Release};
+ghost use Rattle.scripts.specs.Commands.{command_of, command_of_words, vertices_of, add_of, weight_of, remove_of, grow_of, alone, hold_of, run_of, ticket_of, one_number};
 
 use crate::commands::{Command, DEFAULT_CHUNK_SIZE};
 use crate::words::Words;
@@ -130,13 +130,10 @@ fn release(words: Words<'_>) -> Option<Command>
 
 /// The edges of the newest version, or of a ticket's.
 fn edges(words: Words<'_>) -> Option<Command>
-    ensures { result ≡ edges_of words.entry }
+    ensures { result ≡ option_map Edges (ticket_of words.entry) }
 {
-    if words.is_empty() {
-        return Some(Command::Edges);
-    }
-    let ticket = last_number(words)?;
-    Some(Command::EdgesOf { ticket })
+    let ticket = last_ticket(words)?;
+    Some(Command::Edges { ticket })
 }
 
 /// A program to run, on the newest version or a ticket's.
