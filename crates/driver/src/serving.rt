@@ -1,11 +1,12 @@
 //! Requests served: scripts, checks, plans and races.
 
-ghost use Rattle.std.specs.Prelude.{◌≡◌, map, IfOk};
+ghost use Rattle.std.specs.Prelude.{◌≡◌, codes, map, IfOk};
+ghost use Rattle.std.specs.Str.{bytes_eq};
 ghost use Rattle.crew.specs.Outcome.{AreWorkers};
 ghost use Rattle.driver.specs.inside.Programs.{ShowsMeaning};
 ghost use Rattle.scripts.specs.Script.{input as input_of, taken_by_writer, RunsScript};
 ghost use Rattle.driver.specs.inside.Reading.{CompilesFile, CompilesFiles};
-ghost use Rattle.driver.specs.Serving.{script_end_of, ChecksFile, PrintsPlan, RunsFiles, RunsStream, Serves};
+ghost use Rattle.driver.specs.Serving.{script_end_of, ChecksFile, PrintsPlan, RunsFiles, RunsStream, Serves, ServesScript};
 
 use crate::compiled_plan::CompiledPlan;
 use crate::error::ServeError;
@@ -56,13 +57,10 @@ pub fn serve<T: Threads + Wait + Sync, F: Files, R: Feed, W: Drain, E: Drain>(
         (taken_by_writer (W.bytes_written out.old) (W.failures out.old))
         (taken_by_writer (W.bytes_written out.new) (W.failures out.new)) result.0 }
 {
-    let first_fault = &FirstFault::new();
-    let refused = &RefusedLines::new();
     match request {
-        Request::Input => {
-            let programs = ProgramFiles::new(&[], first_fault, refused);
-            let (ended, state) = run_stream(rt, alloc, programs, files, input, out);
-            (told(alloc, ended, None, files, err), state)
+        Request::Input => serve_script(rt, alloc, STREAM, &[], files, input, out, err),
+        Request::Script { script, programs } => {
+            serve_script(rt, alloc, script, programs, files, input, out, err)
         }
         Request::Check { file } => {
             let ended = check_file(alloc, file, files, out);
@@ -72,25 +70,14 @@ pub fn serve<T: Threads + Wait + Sync, F: Files, R: Feed, W: Drain, E: Drain>(
             let ended = print_plan(alloc, file, files, out);
             (told(alloc, ended, None, files, err), None)
         }
-        Request::Script {
-            script,
-            programs: names,
-        } => {
-            let programs = ProgramFiles::new(names, first_fault, refused);
-            let (ended, state) = if *script == STREAM {
-                run_stream(rt, alloc, programs, files, input, out)
-            } else {
-                run_files(rt, alloc, script, programs, files, out)
-            };
-            let status = told_of_script(alloc, ended, script, programs, files, err);
-            (status, state)
-        }
         Request::Race {
             script,
             programs: names,
             workers,
             turns,
         } => {
+            let first_fault = &FirstFault::new();
+            let refused = &RefusedLines::new();
             let programs = ProgramFiles::new(names, first_fault, refused);
             let bounds = RaceBounds {
                 workers: *workers,
@@ -101,6 +88,41 @@ pub fn serve<T: Threads + Wait + Sync, F: Files, R: Feed, W: Drain, E: Drain>(
             (told(alloc, ended, Some(programs), files, err), None)
         }
     }
+}
+
+// Runs the script in the file of this name, or the standard input if the name is `-`, with the programs in files, and answers the
+// exit status and what the script opened.
+fn serve_script<'a, T: Threads + Sync, F: Files, R: Feed, W: Drain, E: Drain>(
+    rt: &T,
+    alloc: Global,
+    script: &'a str,
+    names: &[&'a str],
+    files: &F,
+    input: &mut R,
+    out: &mut W,
+    err: &mut E,
+) -> (u8, Option<ScriptState>)
+    ensures { ServesScript (bytes_eq script.entry.now (codes "-")) (F.may_hold files.now) (F.may_fail files.now) script.entry.now
+        (map (λ n. n.now) names.entry.now)
+        (input_of (R.bytes_read input.old) (R.ended input.old) (R.failures input.old))
+        (input_of (R.bytes_read input.new) (R.ended input.new) (R.failures input.new))
+        (taken_by_writer (W.bytes_written out.old) (W.failures out.old))
+        (taken_by_writer (W.bytes_written out.new) (W.failures out.new)) result.0 }
+{
+    let first_fault = &FirstFault::new();
+    let refused = &RefusedLines::new();
+    let programs = ProgramFiles::new(names, first_fault, refused);
+    let by = |alloc: Global, order: RunOrder<'_>| -> Result<Outcome, AllocError>
+        requires { AreWorkers order.workers }
+        ensures { IfOk result (ShowsMeaning order.entry) }
+    { run_by_workers(rt, alloc, order, first_fault) };
+    let (ended, state) = if script == STREAM {
+        run_stream(alloc, programs, by, files, input, out)
+    } else {
+        run_file(alloc, script, programs, by, files, out)
+    };
+    let status = told_of_script(alloc, ended, script, programs, files, err);
+    (status, state)
 }
 
 // The end of a script, with the errors of requests.
@@ -150,15 +172,17 @@ fn print_plan<'a, F: Files, W: Drain>(
     }
 }
 
-// Compiles the programs in the files of these names, and then runs the script that a file holds.
-fn run_files<'a, T: Threads + Sync, F: Files, W: Drain>(
-    rt: &T,
+// Compiles the programs in the files of these names, and then runs the script that a file holds, each program by `by`.
+fn run_file<'a, B: Fn(Global, RunOrder<'_>) -> Result<Outcome, AllocError>, F: Files, W: Drain>(
     alloc: Global,
     script: &'a str,
     programs: ProgramFiles<'_, 'a>,
+    by: B,
     files: &F,
     out: &mut W,
 ) -> (Result<bool, ServeError<'a>>, Option<ScriptState>)
+    requires may_run { (alloc : _) (order : _) → AreWorkers order.workers → B.pre by alloc order }
+    requires runs { (alloc : _) (order : _) (r : _) → B.post by alloc order r → IfOk r (ShowsMeaning order) }
     ensures { RunsFiles (F.may_hold files.now) (F.may_fail files.now) script.entry.now (map (λ p. p.now) programs.entry.names.now)
         (taken_by_writer (W.bytes_written out.old) (W.failures out.old))
         (taken_by_writer (W.bytes_written out.new) (W.failures out.new)) result.0 }
@@ -171,51 +195,41 @@ fn run_files<'a, T: Threads + Sync, F: Files, W: Drain>(
         Ok(text) => text,
         Err(error) => return (Err(error), None),
     };
-    let first_fault = programs.first_fault;
-    let refused = programs.refused;
-    let programs = CompiledPrograms::new(
-        plans,
-        refused,
-        |alloc: Global, order: RunOrder<'_>| -> Result<Outcome, AllocError>
-            requires { AreWorkers order.workers }
-            ensures { IfOk result (ShowsMeaning order.entry) }
-        { run_by_workers(rt, alloc, order, first_fault) },
-    );
+    let programs = CompiledPrograms::new(plans, programs.refused, by);
     let (ended, state) = run_text(alloc, &programs, &text, out);
     (ended_as(ended), Some(state))
 }
 
-// Compiles the programs in the files of these names, and then runs the standard input as a script with them.
-fn run_stream<'a, T: Threads + Sync, F: Files, R: Feed, W: Drain>(
-    rt: &T,
+// Compiles the programs in the files of these names, and then runs the standard input as a script with them, each by `by`.
+fn run_stream<
+    'a,
+    B: Fn(Global, RunOrder<'_>) -> Result<Outcome, AllocError>,
+    F: Files,
+    R: Feed,
+    W: Drain,
+>(
     alloc: Global,
     programs: ProgramFiles<'_, 'a>,
+    by: B,
     files: &F,
     input: &mut R,
     out: &mut W,
 ) -> (Result<bool, ServeError<'a>>, Option<ScriptState>)
+    requires may_run { (alloc : _) (order : _) → AreWorkers order.workers → B.pre by alloc order }
+    requires runs { (alloc : _) (order : _) (r : _) → B.post by alloc order r → IfOk r (ShowsMeaning order) }
     ensures { RunsStream (F.may_hold files.now) (F.may_fail files.now) (map (λ p. p.now) programs.entry.names.now)
         (input_of (R.bytes_read input.old) (R.ended input.old) (R.failures input.old))
         (input_of (R.bytes_read input.new) (R.ended input.new) (R.failures input.new))
         (taken_by_writer (W.bytes_written out.old) (W.failures out.old))
         (taken_by_writer (W.bytes_written out.new) (W.failures out.new)) result.0 }
 {
-    let compiled = match compiled_files(alloc, programs.names, files) {
-        Ok(compiled) => compiled,
+    let plans = match compiled_files(alloc, programs.names, files) {
+        Ok(plans) => plans,
         Err(error) => return (Err(error), None),
     };
-    let first_fault = programs.first_fault;
-    let refused = programs.refused;
-    let programs = CompiledPrograms::new(
-        compiled,
-        refused,
-        |alloc: Global, order: RunOrder<'_>| -> Result<Outcome, AllocError>
-            requires { AreWorkers order.workers }
-            ensures { IfOk result (ShowsMeaning order.entry) }
-        { run_by_workers(rt, alloc, order, first_fault) },
-    );
-    let (done, state) = script(alloc, &programs, input, out);
-    (ended_as(done), Some(state))
+    let programs = CompiledPrograms::new(plans, programs.refused, by);
+    let (ended, state) = script(alloc, &programs, input, out);
+    (ended_as(ended), Some(state))
 }
 
 // The programs in the files of these names.
