@@ -39,7 +39,7 @@ pub struct ApplyContext<'a> {
 impl<'a> ApplyContext<'a> {
     /// What the new entries of a vector begin with.
     #[inline]
-    pub(crate) fn initial(self, vector: usize) -> InitialEntries<'a>
+    pub(crate) fn seeds(self, vector: usize) -> InitialEntries<'a>
         ensures start { start_of result ≡ self.entry.start }
         ensures seed { (v : ℕ) (h : ℤ) → initial_seed result v h ≡ first_entry self.entry vector v h }
     {

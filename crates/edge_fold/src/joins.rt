@@ -64,18 +64,18 @@ impl Accumulator {
     /// entry yet, one begins. The only error is out of memory, after which a part was done.
     pub(crate) fn join_column(
         &mut self,
-        initial: InitialEntries<'_>,
+        seeds: InitialEntries<'_>,
         contribution: ContributionColumn<'_>,
         destinations: &[u32],
     ) -> Result<(), AllocError>
         requires { length destinations.now ≤ length contribution.numbers.now }
-        ensures { OnOk result (AreJoined initial.entry contribution.entry.reduction self.old self.new
+        ensures { OnOk result (AreJoined seeds.entry contribution.entry.reduction self.old self.new
             (given_from contribution.entry.vector (contribution_at contribution.entry) 0 destinations.now)) }
     {
         match contribution.reduction {
-            Reduction::Min => self.join_all(Reduction::Min, initial, contribution, destinations),
-            Reduction::Max => self.join_all(Reduction::Max, initial, contribution, destinations),
-            Reduction::Plus => self.join_all(Reduction::Plus, initial, contribution, destinations),
+            Reduction::Min => self.join_all(Reduction::Min, seeds, contribution, destinations),
+            Reduction::Max => self.join_all(Reduction::Max, seeds, contribution, destinations),
+            Reduction::Plus => self.join_all(Reduction::Plus, seeds, contribution, destinations),
         }
     }
 
@@ -83,16 +83,16 @@ impl Accumulator {
     fn join_all(
         &mut self,
         reduction: Reduction,
-        initial: InitialEntries<'_>,
+        seeds: InitialEntries<'_>,
         contribution: ContributionColumn<'_>,
         destinations: &[u32],
     ) -> Result<(), AllocError>
         requires { length destinations.now ≤ length contribution.numbers.now }
-        ensures { OnOk result (AreJoined initial.entry reduction self.old self.new
+        ensures { OnOk result (AreJoined seeds.entry reduction self.old self.new
             (given_from contribution.entry.vector (contribution_at contribution.entry) 0 destinations.now)) }
     {
         'pairs: for (k, vertex) in destinations.iter().enumerate() {
-            self.join_pair(reduction, initial, contribution, k, *vertex)?;
+            self.join_pair(reduction, seeds, contribution, k, *vertex)?;
         }
         Ok(())
     }
@@ -102,17 +102,17 @@ impl Accumulator {
     fn join_pair(
         &mut self,
         reduction: Reduction,
-        initial: InitialEntries<'_>,
+        seeds: InitialEntries<'_>,
         contribution: ContributionColumn<'_>,
         index: usize,
         vertex: u32,
     ) -> Result<(), AllocError>
         requires { index < length contribution.numbers.now }
-        ensures { OnOk result (AreJoined initial.entry reduction self.old self.new
+        ensures { OnOk result (AreJoined seeds.entry reduction self.old self.new
             (numbers_for_vector contribution.entry.vector vertex (contribution_at contribution.entry index))) }
     {
         if is_given(contribution, index) {
-            self.join(reduction, initial, vertex, contribution.numbers[index])?;
+            self.join(reduction, seeds, vertex, contribution.numbers[index])?;
         }
         Ok(())
     }
@@ -123,16 +123,16 @@ impl Accumulator {
     pub(crate) fn join_number<E: NeighbourEntries>(
         &mut self,
         reduction: Reduction,
-        initial: InitialEntries<'_>,
+        seeds: InitialEntries<'_>,
         number: i64,
         destinations: &E,
     ) -> Result<(), AllocError>
-        ensures { OnOk result (AreJoined initial.entry reduction self.old self.new (each_given number (firsts (E.entries destinations.now)))) }
+        ensures { OnOk result (AreJoined seeds.entry reduction self.old self.new (each_given number (firsts (E.entries destinations.now)))) }
     {
         match reduction {
-            Reduction::Min => self.join_each(Reduction::Min, initial, number, destinations),
-            Reduction::Max => self.join_each(Reduction::Max, initial, number, destinations),
-            Reduction::Plus => self.join_each(Reduction::Plus, initial, number, destinations),
+            Reduction::Min => self.join_each(Reduction::Min, seeds, number, destinations),
+            Reduction::Max => self.join_each(Reduction::Max, seeds, number, destinations),
+            Reduction::Plus => self.join_each(Reduction::Plus, seeds, number, destinations),
         }
     }
 
@@ -140,15 +140,15 @@ impl Accumulator {
     fn join_each<E: NeighbourEntries>(
         &mut self,
         reduction: Reduction,
-        initial: InitialEntries<'_>,
+        seeds: InitialEntries<'_>,
         number: i64,
         destinations: &E,
     ) -> Result<(), AllocError>
-        ensures { OnOk result (AreJoined initial.entry reduction self.old self.new (each_given number (firsts (E.entries destinations.now)))) }
+        ensures { OnOk result (AreJoined seeds.entry reduction self.old self.new (each_given number (firsts (E.entries destinations.now)))) }
     {
         let joined = self.join_filled(reduction, number, destinations);
         'each: for index in joined..destinations.len() {
-            self.join(reduction, initial, destinations.neighbour(index), number)?;
+            self.join(reduction, seeds, destinations.neighbour(index), number)?;
         }
         Ok(())
     }
@@ -182,22 +182,18 @@ impl Accumulator {
     pub(crate) fn join_weights<E: NeighbourEntries>(
         &mut self,
         reduction: Reduction,
-        initial: InitialEntries<'_>,
+        seeds: InitialEntries<'_>,
         numbers: NumberWith,
         destinations: &E,
     ) -> Result<(), AllocError>
-        ensures { OnOk result (AreJoined initial.entry reduction self.old self.new
+        ensures { OnOk result (AreJoined seeds.entry reduction self.old self.new
             (each_weighed (number_with numbers) (E.entries destinations.now))) }
     {
         match reduction {
-            Reduction::Min => {
-                self.join_weights_by(Reduction::Min, initial, numbers, destinations)
-            }
-            Reduction::Max => {
-                self.join_weights_by(Reduction::Max, initial, numbers, destinations)
-            }
+            Reduction::Min => { self.join_weights_by(Reduction::Min, seeds, numbers, destinations) }
+            Reduction::Max => { self.join_weights_by(Reduction::Max, seeds, numbers, destinations) }
             Reduction::Plus => {
-                self.join_weights_by(Reduction::Plus, initial, numbers, destinations)
+                self.join_weights_by(Reduction::Plus, seeds, numbers, destinations)
             }
         }
     }
@@ -207,11 +203,11 @@ impl Accumulator {
     fn join_weights_by<E: NeighbourEntries>(
         &mut self,
         reduction: Reduction,
-        initial: InitialEntries<'_>,
+        seeds: InitialEntries<'_>,
         numbers: NumberWith,
         destinations: &E,
     ) -> Result<(), AllocError>
-        ensures { OnOk result (AreJoined initial.entry reduction self.old self.new
+        ensures { OnOk result (AreJoined seeds.entry reduction self.old self.new
             (each_weighed (number_with numbers) (E.entries destinations.now))) }
     {
         let number = numbers.number;
@@ -219,27 +215,27 @@ impl Accumulator {
             Operator::Add => {
                 let operator = Operator::Add;
                 let sums = NumberWith { number, operator };
-                self.join_each_weight(reduction, initial, sums, destinations)
+                self.join_each_weight(reduction, seeds, sums, destinations)
             }
             Operator::Subtract => {
                 let operator = Operator::Subtract;
                 let differences = NumberWith { number, operator };
-                self.join_each_weight(reduction, initial, differences, destinations)
+                self.join_each_weight(reduction, seeds, differences, destinations)
             }
             Operator::Multiply => {
                 let operator = Operator::Multiply;
                 let products = NumberWith { number, operator };
-                self.join_each_weight(reduction, initial, products, destinations)
+                self.join_each_weight(reduction, seeds, products, destinations)
             }
             Operator::Divide => {
                 let operator = Operator::Divide;
                 let quotients = NumberWith { number, operator };
-                self.join_each_weight(reduction, initial, quotients, destinations)
+                self.join_each_weight(reduction, seeds, quotients, destinations)
             }
             Operator::Remainder => {
                 let operator = Operator::Remainder;
                 let remainders = NumberWith { number, operator };
-                self.join_each_weight(reduction, initial, remainders, destinations)
+                self.join_each_weight(reduction, seeds, remainders, destinations)
             }
         }
     }
@@ -248,16 +244,16 @@ impl Accumulator {
     fn join_each_weight<E: NeighbourEntries>(
         &mut self,
         reduction: Reduction,
-        initial: InitialEntries<'_>,
+        seeds: InitialEntries<'_>,
         numbers: NumberWith,
         destinations: &E,
     ) -> Result<(), AllocError>
-        ensures { OnOk result (AreJoined initial.entry reduction self.old self.new
+        ensures { OnOk result (AreJoined seeds.entry reduction self.old self.new
             (each_weighed (number_with numbers) (E.entries destinations.now))) }
     {
         'edges: for index in 0..destinations.len() {
             let number = numbers.of(destinations.weight(index));
-            self.join(reduction, initial, destinations.neighbour(index), number)?;
+            self.join(reduction, seeds, destinations.neighbour(index), number)?;
         }
         Ok(())
     }
@@ -266,13 +262,13 @@ impl Accumulator {
     pub(crate) fn join_changes(
         &mut self,
         reduction: Reduction,
-        initial: InitialEntries<'_>,
+        seeds: InitialEntries<'_>,
         numbers: &[EntryChange],
     ) -> Result<(), AllocError>
-        ensures { OnOk result (AreJoined initial.entry reduction self.old self.new (given_numbers numbers.now)) }
+        ensures { OnOk result (AreJoined seeds.entry reduction self.old self.new (given_numbers numbers.now)) }
     {
         'numbers: for change in numbers {
-            self.join(reduction, initial, change.vertex(), change.number())?;
+            self.join(reduction, seeds, change.vertex(), change.number())?;
         }
         Ok(())
     }
@@ -282,16 +278,16 @@ impl Accumulator {
     fn join(
         &mut self,
         reduction: Reduction,
-        initial: InitialEntries<'_>,
+        seeds: InitialEntries<'_>,
         vertex: u32,
         number: i64,
     ) -> Result<(), AllocError>
-        ensures { OnOk result (AreJoined initial.entry reduction self.old self.new ((vertex, number) ∷ [])) }
+        ensures { OnOk result (AreJoined seeds.entry reduction self.old self.new ((vertex, number) ∷ [])) }
     {
         if vertex as usize >= self.marks.room() {
-            return self.join_beyond(reduction, initial, vertex, number);
+            return self.join_beyond(reduction, seeds, vertex, number);
         }
-        self.join_inside(reduction, initial, vertex, number);
+        self.join_inside(reduction, seeds, vertex, number);
         Ok(())
     }
 
@@ -301,14 +297,14 @@ impl Accumulator {
     fn join_beyond(
         &mut self,
         reduction: Reduction,
-        initial: InitialEntries<'_>,
+        seeds: InitialEntries<'_>,
         vertex: u32,
         number: i64,
     ) -> Result<(), AllocError>
-        ensures { OnOk result (AreJoined initial.entry reduction self.old self.new ((vertex, number) ∷ [])) }
+        ensures { OnOk result (AreJoined seeds.entry reduction self.old self.new ((vertex, number) ∷ [])) }
     {
         self.make_room(vertex as usize + 1)?;
-        self.join_inside(reduction, initial, vertex, number);
+        self.join_inside(reduction, seeds, vertex, number);
         Ok(())
     }
 
@@ -317,19 +313,19 @@ impl Accumulator {
     fn join_inside(
         &mut self,
         reduction: Reduction,
-        initial: InitialEntries<'_>,
+        seeds: InitialEntries<'_>,
         vertex: u32,
         number: i64,
     )
         requires { vertex < room self.old }
-        ensures { AreJoined initial.entry reduction self.old self.new ((vertex, number) ∷ []) }
+        ensures { AreJoined seeds.entry reduction self.old self.new ((vertex, number) ∷ []) }
     {
         let index = vertex as usize;
         if self.has_entry(vertex) {
             self.values[index] = reduce(reduction, self.values[index], number);
             return;
         }
-        self.values[index] = initial.first(reduction, index, number);
+        self.values[index] = seeds.first(reduction, index, number);
         self.marks.insert(vertex);
     }
 

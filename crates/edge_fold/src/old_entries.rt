@@ -8,7 +8,7 @@ ghost use Rattle.edge_fold.specs.Folded.{IsContextOf, HasFolded};
 ghost use Rattle.edge_fold.specs.inside.Held.{AreJoined};
 ghost use Rattle.edge_fold.specs.Held.{held_with};
 ghost use Rattle.edge_fold.specs.inside.VectorAccumulators.{HaveJoined};
-ghost use Rattle.edge_fold.specs.declared.initial_entries.InitialEntries.TheVariants as initial;
+ghost use Rattle.edge_fold.specs.declared.initial_entries.InitialEntries.TheVariants as seeds;
 
 use crate::accumulator::Accumulator;
 use crate::apply_context::ApplyContext;
@@ -58,19 +58,19 @@ impl VectorAccumulators {
         ensures { OnOk result ((x : ℕ) (r : Reducing) → (vector ≡ x → reduction ≡ r) → HaveJoined context.entry x r self.old self.new []) }
     {
         let position = self.position(alloc, vector, reduction, context.vertices)?;
-        let initial = context.initial(vector);
-        self.slots[position].entries.fill(initial, context.vertices);
+        let seeds = context.seeds(vector);
+        self.slots[position].entries.fill(seeds, context.vertices);
         Ok(())
     }
 }
 
 impl Accumulator {
     /// Gives each of n vertices its old entry, if new entries begin with the old ones.
-    fn fill(&mut self, initial: InitialEntries<'_>, vertices: u32)
+    fn fill(&mut self, seeds: InitialEntries<'_>, vertices: u32)
         requires { (combine : ℤ → ℤ → ℤ) (v : ℕ) (h : ℤ) → held_with combine self.old v h ≡ h }
-        ensures { (r : Reducing) → AreJoined initial.entry r self.old self.new [] }
+        ensures { (r : Reducing) → AreJoined seeds.entry r self.old self.new [] }
     {
-        match initial {
+        match seeds {
             InitialEntries::Unit => {}
             InitialEntries::Entries(old) => self.fill_from(old, vertices),
         }
@@ -79,7 +79,7 @@ impl Accumulator {
     /// Gives each of n vertices its entry of this vector, in blocks of 64 vertices, as far as there is room.
     fn fill_from(&mut self, old: Lane<'_>, vertices: u32)
         requires { (combine : ℤ → ℤ → ℤ) (v : ℕ) (h : ℤ) → held_with combine self.old v h ≡ h }
-        ensures { (r : Reducing) → AreJoined (initial.Entries old.entry) r self.old self.new [] }
+        ensures { (r : Reducing) → AreJoined (seeds.Entries old.entry) r self.old self.new [] }
     {
         let blocks = ((vertices as usize + 63) / 64).min(self.marks.room() / 64);
         copy_entries(old, 64 * blocks, self.values.as_mut_slice());

@@ -147,10 +147,10 @@ impl VectorAccumulators {
             contribution.reduction,
             context.vertices,
         )?;
-        let initial = context.initial(contribution.vector);
+        let seeds = context.seeds(contribution.vector);
         self.slots[position]
             .entries
-            .join_column(initial, contribution, destinations)?;
+            .join_column(seeds, contribution, destinations)?;
         Ok(())
     }
 
@@ -173,11 +173,11 @@ impl VectorAccumulators {
             contribution.reduction,
             context.vertices,
         )?;
-        let initial = context.initial(contribution.vector);
+        let seeds = context.seeds(contribution.vector);
         let entries = &mut self.slots[position].entries;
         entries.join_number(
             contribution.reduction,
-            initial,
+            seeds,
             contribution.number,
             destinations,
         )?;
@@ -201,13 +201,13 @@ impl VectorAccumulators {
             (E.entries destinations.now) else [])) }
     {
         let position = self.position(alloc, given.vector, given.reduction, context.vertices)?;
-        let initial = context.initial(given.vector);
+        let seeds = context.seeds(given.vector);
         let numbers = NumberWith {
             number: context.vectors.lane(given.from).get(source as usize),
             operator: given.operator,
         };
         let entries = &mut self.slots[position].entries;
-        entries.join_weights(given.reduction, initial, numbers, destinations)?;
+        entries.join_weights(given.reduction, seeds, numbers, destinations)?;
         Ok(())
     }
 
@@ -241,9 +241,9 @@ impl VectorAccumulators {
         let vector = of_vector.vector;
         let reduction = of_vector.reduction;
         let position = self.position(alloc, vector, reduction, context.vertices)?;
-        let initial = context.initial(vector);
+        let seeds = context.seeds(vector);
         let entries = &mut self.slots[position].entries;
-        entries.join_changes(reduction, initial, &of_vector.numbers)?;
+        entries.join_changes(reduction, seeds, &of_vector.numbers)?;
         Ok(())
     }
 

@@ -4,13 +4,13 @@ use Rattle.vectors.specs.Lanes.{lane_entry}
 use Rattle.edge_fold.specs.declared.apply_context.FoldStart.{FoldStart}
 use Rattle.edge_fold.specs.declared.initial_entries.InitialEntries.{InitialEntries}
 use Rattle.edge_fold.specs.declared.apply_context.FoldStart.TheVariants as start
-use Rattle.edge_fold.specs.declared.initial_entries.InitialEntries.TheVariants as initial
+use Rattle.edge_fold.specs.declared.initial_entries.InitialEntries.TheVariants as seeds
 
 -- where a fold starts from these initial entries, and its seed at a vertex
 abbrev pub start_of : InitialEntries → FoldStart
-start_of (initial.Entries old) = start.OldEntry
-start_of initial.Unit = start.Unit
+start_of (seeds.Entries old) = start.OldEntry
+start_of seeds.Unit = start.Unit
 
 abbrev pub initial_seed : InitialEntries → (v : ℕ) → ℤ → ℤ
-initial_seed (initial.Entries old) v h = lane_entry old v
-initial_seed initial.Unit v h = h
+initial_seed (seeds.Entries old) v h = lane_entry old v
+initial_seed seeds.Unit v h = h

@@ -17,5 +17,5 @@ pairs-preserved c = λ v h.
     let ds = a.destinations.now in
     let inside : k < length ds = c.pairs-test.true in
     ap (λ (n : ℤ). reduced_at a.reduction v n (given_from a.contribution.vector row (k + 1) (drop (k + 1) ds))) (c.in_ok-join_pair.ensures v h)
-    ∙ one_pair_more a.reduction v a.contribution.vector (held_with (combined_with_seed (start_of a.initial) a.reduction) c.pairs.self v (initial_seed a.initial v h)) row k ds inside
+    ∙ one_pair_more a.reduction v a.contribution.vector (held_with (combined_with_seed (start_of a.seeds) a.reduction) c.pairs.self v (initial_seed a.seeds v h)) row k ds inside
     ∙ c.pairs.invariant v h

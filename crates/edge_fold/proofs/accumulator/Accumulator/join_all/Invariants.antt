@@ -10,7 +10,7 @@ use Rattle.edge_fold.proofs.accumulator.Accumulator.join_all.Given as goal
 -- the entries that are held, reduced with what is left to join, are the whole
 abbrev pub invariant-pairs : goal.invariant-pairs
 invariant-pairs l = (v : ℕ) (h : ℤ)
-    → reduced_at l.reduction v (held_with (combined_with_seed (start_of l.initial) l.reduction) l.self v (initial_seed l.initial v h))
+    → reduced_at l.reduction v (held_with (combined_with_seed (start_of l.seeds) l.reduction) l.self v (initial_seed l.seeds v h))
     (given_from l.contribution.vector (contribution_at l.contribution) l.k (drop l.k l.destinations))
-    ≡ reduced_at l.reduction v (held_with (combined_with_seed (start_of l.initial) l.reduction) l.fn.self v (initial_seed l.initial v h))
+    ≡ reduced_at l.reduction v (held_with (combined_with_seed (start_of l.seeds) l.reduction) l.fn.self v (initial_seed l.seeds v h))
     (given_from l.contribution.vector (contribution_at l.contribution) 0 l.destinations)

@@ -22,7 +22,7 @@ numbers-preserved c v h =
     let inside : i < length cs = c.numbers-test.true in
     let fits : FitsSigned w64 c.number.result = search rules in
     let number : to_z w64 (of_z w64 c.number.result) ≡ change.number = to_z-of_z w64 c.number.result fits ∙ c.number.ensures ∙ ap (λ (e : EntryChange). e.number) c.change-item.is in
-    let now = held_with (combined_with_seed (start_of a.initial) r) c.numbers.self v (initial_seed a.initial v h) in
+    let now = held_with (combined_with_seed (start_of a.seeds) r) c.numbers.self v (initial_seed a.seeds v h) in
     ap (λ (n : ℤ). reduced_at r v n (given_numbers (drop (i + 1) cs)))
     (c.in_ok-join.ensures v h
     ∙ ap (λ (n : ℤ). if c.vertex.result == v then reduced r now n else now) number

@@ -11,5 +11,5 @@ use Rattle.edge_fold.proofs.accumulator.Accumulator.join_each.Given as goal
 abbrev pub invariant-each : goal.invariant-each
 invariant-each g l =
     let ds = firsts (g.E.NeighbourEntries.entries l.destinations) in
-    (v : ℕ) (h : ℤ) → reduced_at l.reduction v (held_with (combined_with_seed (start_of l.initial) l.reduction) l.self v (initial_seed l.initial v h)) (each_given l.number (drop l.index ds))
-    ≡ reduced_at l.reduction v (held_with (combined_with_seed (start_of l.initial) l.reduction) l.fn.self v (initial_seed l.initial v h)) (each_given l.number ds)
+    (v : ℕ) (h : ℤ) → reduced_at l.reduction v (held_with (combined_with_seed (start_of l.seeds) l.reduction) l.self v (initial_seed l.seeds v h)) (each_given l.number (drop l.index ds))
+    ≡ reduced_at l.reduction v (held_with (combined_with_seed (start_of l.seeds) l.reduction) l.fn.self v (initial_seed l.seeds v h)) (each_given l.number ds)

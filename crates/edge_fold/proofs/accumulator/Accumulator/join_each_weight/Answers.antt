@@ -14,7 +14,7 @@ edges-preserved g c = λ v h.
     let es = g.E.NeighbourEntries.entries a.destinations.now in
     let f = number_with a.numbers in
     let within : k < length es = omega (arith, c.edges-test.true, c.len-index-end.ensures) in
-    let now = held_with (combined_with_seed (start_of a.initial) a.reduction) c.edges.self v (initial_seed a.initial v h) in
+    let now = held_with (combined_with_seed (start_of a.seeds) a.reduction) c.edges.self v (initial_seed a.seeds v h) in
     let number : to_z w64 (of_z w64 c.of-number.result) ≡ f (get_or es k (0, pos 1)).1 = search rules in
     one_weight_more a.reduction v f now _ k c.neighbour.result (to_z w64 (of_z w64 c.of-number.result)) es within c.neighbour.ensures number (c.in_ok-join.ensures v h)
     ∙ c.edges.invariant v h

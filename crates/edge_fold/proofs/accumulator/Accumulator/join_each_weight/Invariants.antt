@@ -10,6 +10,6 @@ use Rattle.edge_fold.proofs.accumulator.Accumulator.join_each_weight.Given as go
 abbrev pub invariant-edges : goal.invariant-edges
 invariant-edges g l =
     let es = g.E.NeighbourEntries.entries l.destinations in
-    (v : ℕ) (h : ℤ) → reduced_at l.reduction v (held_with (combined_with_seed (start_of l.initial) l.reduction) l.self v (initial_seed l.initial v h))
+    (v : ℕ) (h : ℤ) → reduced_at l.reduction v (held_with (combined_with_seed (start_of l.seeds) l.reduction) l.self v (initial_seed l.seeds v h))
     (each_weighed (number_with l.numbers) (drop l.index es))
-    ≡ reduced_at l.reduction v (held_with (combined_with_seed (start_of l.initial) l.reduction) l.fn.self v (initial_seed l.initial v h)) (each_weighed (number_with l.numbers) es)
+    ≡ reduced_at l.reduction v (held_with (combined_with_seed (start_of l.seeds) l.reduction) l.fn.self v (initial_seed l.seeds v h)) (each_weighed (number_with l.numbers) es)

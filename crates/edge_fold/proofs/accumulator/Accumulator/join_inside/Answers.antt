@@ -23,17 +23,17 @@ returns-then-has_entry c v h =
     let number = c.reduce.ensures
     ∙ ap (λ (y : ℤ). reduced c.args.reduction y (to_z w64 (of_z w64 c.args.number))) value
     ∙ ap (λ (y : ℤ). reduced c.args.reduction (get_or now.values.items c.args.vertex (pos 0)) y) (to_z-of_z w64 c.args.number number_fits) in
-    let o = initial_seed c.args.initial v h in
-    let combine = combined_with_seed (start_of c.args.initial) c.args.reduction in
+    let o = initial_seed c.args.seeds v h in
+    let combine = combined_with_seed (start_of c.args.seeds) c.args.reduction in
     joined_again c.args.reduction combine now.values.items (is_marked now.marks) c.args.vertex v _ o c.args.number inside on
-    (ap (combine o) (to_z-of_z w64 c.reduce.result fits ∙ number) ∙ combined_more (start_of c.args.initial) c.args.reduction o (get_or now.values.items c.args.vertex (pos 0)) c.args.number)
+    (ap (combine o) (to_z-of_z w64 c.reduce.result fits ∙ number) ∙ combined_more (start_of c.args.seeds) c.args.reduction o (get_or now.values.items c.args.vertex (pos 0)) c.args.number)
 
 pub returns : goal.returns
 returns c v h =
     let now = c.args.self.now in
     let p = c.args.vertex in
-    let o = λ (u : ℕ). initial_seed c.args.initial u h in
-    let combine = combined_with_seed (start_of c.args.initial) c.args.reduction in
+    let o = λ (u : ℕ). initial_seed c.args.seeds u h in
+    let combine = combined_with_seed (start_of c.args.seeds) c.args.reduction in
     let fits : FitsSigned w64 c.first.result = search rules in
     let number_fits : FitsSigned w64 c.args.number = search rules in
     let inside : p < length now.values.items = search rules in

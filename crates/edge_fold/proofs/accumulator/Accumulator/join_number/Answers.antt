@@ -13,23 +13,23 @@ returns-in-Min g c =
     let a = c.args in
     let fits : FitsSigned w64 a.number = search rules in
     let ds = firsts (g.E.NeighbourEntries.entries a.destinations.now) in
-    let joined = subst (λ (n : ℤ). OnOk c.join_each.result (AreJoined a.initial reduction.Min a.self.now c.join_each.new.self (each_given n ds))) (to_z-of_z w64 a.number fits) c.join_each.ensures in
-    subst (λ (r : Reduction). OnOk c.join_each.result (AreJoined a.initial r a.self.now c.join_each.new.self (each_given a.number ds))) (sym c.in-Min.is) joined
+    let joined = subst (λ (n : ℤ). OnOk c.join_each.result (AreJoined a.seeds reduction.Min a.self.now c.join_each.new.self (each_given n ds))) (to_z-of_z w64 a.number fits) c.join_each.ensures in
+    subst (λ (r : Reduction). OnOk c.join_each.result (AreJoined a.seeds r a.self.now c.join_each.new.self (each_given a.number ds))) (sym c.in-Min.is) joined
 
 pub returns-in-Max : goal.returns-in-Max
 returns-in-Max g c =
     let a = c.args in
     let fits : FitsSigned w64 a.number = search rules in
     let ds = firsts (g.E.NeighbourEntries.entries a.destinations.now) in
-    let joined = subst (λ (n : ℤ). OnOk c.join_each-in-Max.result (AreJoined a.initial reduction.Max a.self.now c.join_each-in-Max.new.self (each_given n ds)))
+    let joined = subst (λ (n : ℤ). OnOk c.join_each-in-Max.result (AreJoined a.seeds reduction.Max a.self.now c.join_each-in-Max.new.self (each_given n ds)))
     (to_z-of_z w64 a.number fits) c.join_each-in-Max.ensures in
-    subst (λ (r : Reduction). OnOk c.join_each-in-Max.result (AreJoined a.initial r a.self.now c.join_each-in-Max.new.self (each_given a.number ds))) (sym c.in-Max.is) joined
+    subst (λ (r : Reduction). OnOk c.join_each-in-Max.result (AreJoined a.seeds r a.self.now c.join_each-in-Max.new.self (each_given a.number ds))) (sym c.in-Max.is) joined
 
 pub returns-in-Plus : goal.returns-in-Plus
 returns-in-Plus g c =
     let a = c.args in
     let fits : FitsSigned w64 a.number = search rules in
     let ds = firsts (g.E.NeighbourEntries.entries a.destinations.now) in
-    let joined = subst (λ (n : ℤ). OnOk c.join_each-in-Plus.result (AreJoined a.initial reduction.Plus a.self.now c.join_each-in-Plus.new.self (each_given n ds)))
+    let joined = subst (λ (n : ℤ). OnOk c.join_each-in-Plus.result (AreJoined a.seeds reduction.Plus a.self.now c.join_each-in-Plus.new.self (each_given n ds)))
     (to_z-of_z w64 a.number fits) c.join_each-in-Plus.ensures in
-    subst (λ (r : Reduction). OnOk c.join_each-in-Plus.result (AreJoined a.initial r a.self.now c.join_each-in-Plus.new.self (each_given a.number ds))) (sym c.in-Plus.is) joined
+    subst (λ (r : Reduction). OnOk c.join_each-in-Plus.result (AreJoined a.seeds r a.self.now c.join_each-in-Plus.new.self (each_given a.number ds))) (sym c.in-Plus.is) joined

@@ -14,9 +14,9 @@ returns-in-Add g c =
     let number = a.numbers.number in
     let fits : FitsSigned w64 number = search rules in
     let es = g.E.NeighbourEntries.entries a.destinations.now in
-    let joined = subst (λ (n : ℤ). OnOk c.join_each_weight.result (AreJoined a.initial a.reduction a.self.now c.join_each_weight.new.self (each_weighed (arithmetic operator.Add n) es)))
+    let joined = subst (λ (n : ℤ). OnOk c.join_each_weight.result (AreJoined a.seeds a.reduction a.self.now c.join_each_weight.new.self (each_weighed (arithmetic operator.Add n) es)))
     (to_z-of_z w64 number fits) c.join_each_weight.ensures in
-    subst (λ (o : Operator). OnOk c.join_each_weight.result (AreJoined a.initial a.reduction a.self.now c.join_each_weight.new.self (each_weighed (arithmetic o number) es))) (sym c.in-Add.is) joined
+    subst (λ (o : Operator). OnOk c.join_each_weight.result (AreJoined a.seeds a.reduction a.self.now c.join_each_weight.new.self (each_weighed (arithmetic o number) es))) (sym c.in-Add.is) joined
 
 pub returns-in-Subtract : goal.returns-in-Subtract
 returns-in-Subtract g c =
@@ -24,9 +24,9 @@ returns-in-Subtract g c =
     let number = a.numbers.number in
     let fits : FitsSigned w64 number = search rules in
     let es = g.E.NeighbourEntries.entries a.destinations.now in
-    let joined = subst (λ (n : ℤ). OnOk c.join_each_weight-in-Subtract.result (AreJoined a.initial a.reduction a.self.now c.join_each_weight-in-Subtract.new.self
+    let joined = subst (λ (n : ℤ). OnOk c.join_each_weight-in-Subtract.result (AreJoined a.seeds a.reduction a.self.now c.join_each_weight-in-Subtract.new.self
     (each_weighed (arithmetic operator.Subtract n) es))) (to_z-of_z w64 number fits) c.join_each_weight-in-Subtract.ensures in
-    subst (λ (o : Operator). OnOk c.join_each_weight-in-Subtract.result (AreJoined a.initial a.reduction a.self.now c.join_each_weight-in-Subtract.new.self (each_weighed (arithmetic o number) es)))
+    subst (λ (o : Operator). OnOk c.join_each_weight-in-Subtract.result (AreJoined a.seeds a.reduction a.self.now c.join_each_weight-in-Subtract.new.self (each_weighed (arithmetic o number) es)))
     (sym c.in-Subtract.is) joined
 
 pub returns-in-Multiply : goal.returns-in-Multiply
@@ -35,9 +35,9 @@ returns-in-Multiply g c =
     let number = a.numbers.number in
     let fits : FitsSigned w64 number = search rules in
     let es = g.E.NeighbourEntries.entries a.destinations.now in
-    let joined = subst (λ (n : ℤ). OnOk c.join_each_weight-in-Multiply.result (AreJoined a.initial a.reduction a.self.now c.join_each_weight-in-Multiply.new.self
+    let joined = subst (λ (n : ℤ). OnOk c.join_each_weight-in-Multiply.result (AreJoined a.seeds a.reduction a.self.now c.join_each_weight-in-Multiply.new.self
     (each_weighed (arithmetic operator.Multiply n) es))) (to_z-of_z w64 number fits) c.join_each_weight-in-Multiply.ensures in
-    subst (λ (o : Operator). OnOk c.join_each_weight-in-Multiply.result (AreJoined a.initial a.reduction a.self.now c.join_each_weight-in-Multiply.new.self (each_weighed (arithmetic o number) es)))
+    subst (λ (o : Operator). OnOk c.join_each_weight-in-Multiply.result (AreJoined a.seeds a.reduction a.self.now c.join_each_weight-in-Multiply.new.self (each_weighed (arithmetic o number) es)))
     (sym c.in-Multiply.is) joined
 
 pub returns-in-Divide : goal.returns-in-Divide
@@ -46,9 +46,9 @@ returns-in-Divide g c =
     let number = a.numbers.number in
     let fits : FitsSigned w64 number = search rules in
     let es = g.E.NeighbourEntries.entries a.destinations.now in
-    let joined = subst (λ (n : ℤ). OnOk c.join_each_weight-in-Divide.result (AreJoined a.initial a.reduction a.self.now c.join_each_weight-in-Divide.new.self
+    let joined = subst (λ (n : ℤ). OnOk c.join_each_weight-in-Divide.result (AreJoined a.seeds a.reduction a.self.now c.join_each_weight-in-Divide.new.self
     (each_weighed (arithmetic operator.Divide n) es))) (to_z-of_z w64 number fits) c.join_each_weight-in-Divide.ensures in
-    subst (λ (o : Operator). OnOk c.join_each_weight-in-Divide.result (AreJoined a.initial a.reduction a.self.now c.join_each_weight-in-Divide.new.self (each_weighed (arithmetic o number) es)))
+    subst (λ (o : Operator). OnOk c.join_each_weight-in-Divide.result (AreJoined a.seeds a.reduction a.self.now c.join_each_weight-in-Divide.new.self (each_weighed (arithmetic o number) es)))
     (sym c.in-Divide.is) joined
 
 pub returns-in-Remainder : goal.returns-in-Remainder
@@ -57,7 +57,7 @@ returns-in-Remainder g c =
     let number = a.numbers.number in
     let fits : FitsSigned w64 number = search rules in
     let es = g.E.NeighbourEntries.entries a.destinations.now in
-    let joined = subst (λ (n : ℤ). OnOk c.join_each_weight-in-Remainder.result (AreJoined a.initial a.reduction a.self.now c.join_each_weight-in-Remainder.new.self
+    let joined = subst (λ (n : ℤ). OnOk c.join_each_weight-in-Remainder.result (AreJoined a.seeds a.reduction a.self.now c.join_each_weight-in-Remainder.new.self
     (each_weighed (arithmetic operator.Remainder n) es))) (to_z-of_z w64 number fits) c.join_each_weight-in-Remainder.ensures in
-    subst (λ (o : Operator). OnOk c.join_each_weight-in-Remainder.result (AreJoined a.initial a.reduction a.self.now c.join_each_weight-in-Remainder.new.self (each_weighed (arithmetic o number) es)))
+    subst (λ (o : Operator). OnOk c.join_each_weight-in-Remainder.result (AreJoined a.seeds a.reduction a.self.now c.join_each_weight-in-Remainder.new.self (each_weighed (arithmetic o number) es)))
     (sym c.in-Remainder.is) joined

@@ -28,7 +28,7 @@ returns c x r own =
     let was : VectorAccumulator = c.index_mut.result.now in
     let few : now.used ≤ length now.slots.items = search rules in
     let at = c.in_ok-position.ensures.position in
-    let op = c.initial-initial in
+    let op = c.seeds-seeds in
     joined_slot f x c.args.vector p r c.args.self.now now _ was (record { vector = was.vector; reduction = was.reduction; entries = c.fill.new.self }) [] refl
     at.0 at.1 few c.index_mut.ensures.value refl refl c.in_ok-position.ensures.held (c.in_ok-position.ensures.reduction x r own)
     (λ v h same. along f x c.args.vector v c.args.reduction r (start_of op.result) was.entries c.fill.new.self h _ (λ _. []) (equal c.args.vector x same)

@@ -25,7 +25,7 @@ returns g c x r own =
     let was : VectorAccumulator = c.index_mut.result.now in
     let few : now.used ≤ length now.slots.items = search rules in
     let at = c.in_ok-position.ensures.position in
-    let op = c.initial-initial in
+    let op = c.seeds-seeds in
     let combine = combined_with_seed (start_of op.result) of.reduction in
     let joined = λ (v : ℕ) (h : ℤ). c.in_ok-join_weights.ensures v h
     ∙ ap (λ (n : ℤ). reduced_at of.reduction v (held_with combine was.entries v (initial_seed op.result v h)) (each_weighed (arithmetic of.operator n) es)) number in
