@@ -9,6 +9,11 @@ use Rattle.plan_text.proofs.Spaces.{absurd_cons, spaced_append}
 use Rattle.plans.specs.declared.instruction.Instruction.{Instruction}
 use Rattle.plans.specs.declared.operation.PlanOperation.{PlanOperation}
 use Rattle.plans.specs.declared.operation.PlanOperation.TheVariants as op
+use Rattle.plans.specs.declared.operation.ValueOperation.TheVariants as value_op
+use Rattle.plans.specs.declared.operation.EntryOperation.TheVariants as entry_op
+use Rattle.plans.specs.declared.operation.SetOperation.TheVariants as set_op
+use Rattle.plans.specs.declared.operation.ApplyOperation.TheVariants as apply_op
+use Rattle.plans.specs.declared.operation.ControlOperation.TheVariants as control_op
 use Rattle.plans.specs.Operation.{AreInstructions, IsOperation}
 use Rattle.lowering.specs.inside.Targets.{indices_of}
 use Rattle.lowering.specs.Text.{AreWritten, IsWritten, instruction_line, instruction_lines, operation_words, target_words}
@@ -22,29 +27,29 @@ written_instructions p (i ∷ is) (t ∷ ts) all = (all.0.instruction, written_i
 
 -- an operation goes where its tree does
 pub target_words_of : (keep shown : Depth) (operation : PlanOperation) (o : OperationTree) → IsOperation keep shown operation o → indices_of operation ≡ target_words o
-target_words_of keep shown (op.DeclareInt name k) o h = ap target_words (sym h.is)
-target_words_of keep shown (op.DeclareBool name k) o h = ap target_words (sym h.is)
-target_words_of keep shown (op.SetInt slot k) o h = ap target_words (sym h.is)
-target_words_of keep shown (op.SetBool slot k) o h = ap target_words (sym h.is)
-target_words_of keep shown (op.ReduceInt slot reduction k) o h = ap target_words (sym h.is)
-target_words_of keep shown (op.SetEntry vector index k) o h = ap target_words (sym h.is)
-target_words_of keep shown (op.ReduceEntry vector index reduction k) o h = ap target_words (sym h.is)
-target_words_of keep shown (op.DeclareSet name members) o h = ap target_words (sym h)
-target_words_of keep shown (op.AssignSet slot members) o h = ap target_words (sym h)
-target_words_of keep shown (op.AddVertex slot k) o h = ap target_words (sym h.is)
-target_words_of keep shown (op.PrintInt k) o h = ap target_words (sym h.is)
-target_words_of keep shown (op.PrintBool k) o h = ap target_words (sym h.is)
-target_words_of keep shown (op.ApplyVertices set first None) o h = ap target_words (sym h)
-target_words_of keep shown (op.ApplyVertices set first (Some second)) o h = ap target_words (sym h)
-target_words_of keep shown (op.ApplyEdges ends first None) o h = ap target_words (sym h.is)
-target_words_of keep shown (op.ApplyEdges ends first (Some second)) o h = ap target_words (sym h)
-target_words_of keep shown (op.Unless k to) o h = ap target_words (sym h.is)
-target_words_of keep shown (op.Enter name k) o h = ap target_words (sym h.is)
-target_words_of keep shown (op.UnlessBelow name to) o h = ap target_words (sym h)
-target_words_of keep shown (op.Advance name) o h = ap target_words (sym h)
-target_words_of keep shown op.Turn o h = ap target_words (sym h)
-target_words_of keep shown (op.Jump to) o h = ap target_words (sym h)
-target_words_of keep shown op.End o h = ap target_words (sym h)
+target_words_of keep shown (op.Value (value_op.DeclareInt name k)) o h = ap target_words (sym h.is)
+target_words_of keep shown (op.Value (value_op.DeclareBool name k)) o h = ap target_words (sym h.is)
+target_words_of keep shown (op.Value (value_op.SetInt slot k)) o h = ap target_words (sym h.is)
+target_words_of keep shown (op.Value (value_op.SetBool slot k)) o h = ap target_words (sym h.is)
+target_words_of keep shown (op.Value (value_op.ReduceInt slot reduction k)) o h = ap target_words (sym h.is)
+target_words_of keep shown (op.Value (value_op.AddVertex slot k)) o h = ap target_words (sym h.is)
+target_words_of keep shown (op.Value (value_op.PrintInt k)) o h = ap target_words (sym h.is)
+target_words_of keep shown (op.Value (value_op.PrintBool k)) o h = ap target_words (sym h.is)
+target_words_of keep shown (op.Entry (entry_op.SetEntry vector index k)) o h = ap target_words (sym h.is)
+target_words_of keep shown (op.Entry (entry_op.ReduceEntry vector index reduction k)) o h = ap target_words (sym h.is)
+target_words_of keep shown (op.Set (set_op.DeclareSet name members)) o h = ap target_words (sym h)
+target_words_of keep shown (op.Set (set_op.AssignSet slot members)) o h = ap target_words (sym h)
+target_words_of keep shown (op.Apply (apply_op.ApplyVertices set first None)) o h = ap target_words (sym h)
+target_words_of keep shown (op.Apply (apply_op.ApplyVertices set first (Some second))) o h = ap target_words (sym h)
+target_words_of keep shown (op.Apply (apply_op.ApplyEdges ends first None)) o h = ap target_words (sym h.is)
+target_words_of keep shown (op.Apply (apply_op.ApplyEdges ends first (Some second))) o h = ap target_words (sym h)
+target_words_of keep shown (op.Control (control_op.Unless k to)) o h = ap target_words (sym h.is)
+target_words_of keep shown (op.Control (control_op.Enter name k)) o h = ap target_words (sym h.is)
+target_words_of keep shown (op.Control (control_op.UnlessBelow name to)) o h = ap target_words (sym h)
+target_words_of keep shown (op.Control (control_op.Advance name)) o h = ap target_words (sym h)
+target_words_of keep shown (op.Control control_op.Turn) o h = ap target_words (sym h)
+target_words_of keep shown (op.Control (control_op.Jump to)) o h = ap target_words (sym h)
+target_words_of keep shown (op.Control control_op.End) o h = ap target_words (sym h)
 
 regroup : (old number words target : List ℕ) → (((old ++ number) ++ 32 ∷ []) ++ words) ++ target ≡ old ++ (number ++ 32 ∷ (words ++ target))
 regroup old number words target = simp append_assoc

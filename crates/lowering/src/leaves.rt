@@ -9,6 +9,7 @@ ghost use Rattle.plans.specs.Instruction.{Advance, Do, Enter, Jump, Turn, Unless
 ghost use Rattle.plans.specs.Plan.{chosen, depth_in_loop, loop_step, plain as plain_tree, depth_with_integer};
 ghost use Rattle.plan_text.specs.Expressions.{spaced};
 ghost use Rattle.plans.specs.Operation.{part_tree, IsOperation};
+ghost use Rattle.plans.specs.declared.operation.PlanOperation.TheVariants as op;
 ghost use Rattle.plans.specs.inside.Parts.{fused_pair_tree};
 ghost use Rattle.lowering.specs.inside.Kinds.{HasNoBlock};
 ghost use Rattle.lowering.specs.inside.Putting.{BeginsLoop, Fills, KeepsIndex, Puts};
@@ -21,7 +22,10 @@ use crate::visible::Visible;
 use algorithm_meaning::Depth;
 use apply_options::ApplySchedule;
 use plan_text::{AppliedFunction, ChangedSet, Lines};
-use plans::{EdgePart, FusedPair, Instruction, PartResult, PlanOperation};
+use plans::{
+    ApplyOperation, ControlOperation, EdgePart, FusedPair, Instruction, PartResult, PlanOperation,
+    ValueOperation,
+};
 use std::alloc::AllocError;
 use typed_tree::{BoolExpression, IntExpression, MainStatement, StatementKind};
 
@@ -108,7 +112,11 @@ impl Lowering<'_> {
         }
         .put_unless(&mut words, c)?;
         let test = bool_kernel(self.alloc, c, head.keep)?;
-        Ok(instruction_of(head, PlanOperation::Unless { test, to }, words))
+        Ok(instruction_of(
+            head,
+            PlanOperation::Control(ControlOperation::Unless { test, to }),
+            words,
+        ))
     }
 
     /// `turn`
@@ -117,7 +125,7 @@ impl Lowering<'_> {
     {
         let mut words = Vec::new(self.alloc);
         words.extend_from_slice(b"turn ")?;
-        Ok(instruction_of(head, PlanOperation::Turn, words))
+        Ok(instruction_of(head, PlanOperation::Control(ControlOperation::Turn), words))
     }
 
     /// `jump X`
@@ -126,7 +134,11 @@ impl Lowering<'_> {
     {
         let mut words = Vec::new(self.alloc);
         words.extend_from_slice(b"jump ")?;
-        Ok(instruction_of(head, PlanOperation::Jump { to }, words))
+        Ok(instruction_of(
+            head,
+            PlanOperation::Control(ControlOperation::Jump { to }),
+            words,
+        ))
     }
 
     /// `set i [i 1 +]`
@@ -138,7 +150,12 @@ impl Lowering<'_> {
             program: self.program,
         }
         .put_advance(&mut words, name)?;
-        Ok(plain(number, depth, PlanOperation::Advance { name }, words))
+        Ok(plain(
+            number,
+            depth,
+            PlanOperation::Control(ControlOperation::Advance { name }),
+            words,
+        ))
     }
 
     /// `unless [i i.end <] X`
@@ -155,7 +172,11 @@ impl Lowering<'_> {
             program: self.program,
         }
         .put_below(&mut words, name)?;
-        Ok(instruction_of(head, PlanOperation::UnlessBelow { name, to }, words))
+        Ok(instruction_of(
+            head,
+            PlanOperation::Control(ControlOperation::UnlessBelow { name, to }),
+            words,
+        ))
     }
 
     /// Puts that a `for`'s name gets its first value.
@@ -194,7 +215,7 @@ impl Lowering<'_> {
         Ok(plain(
             number,
             depth,
-            PlanOperation::DeclareInt { name, value },
+            PlanOperation::Value(ValueOperation::DeclareInt { name, value }),
             words,
         ))
     }
@@ -230,7 +251,11 @@ impl Lowering<'_> {
         }
         .put_bound(&mut words, name, e)?;
         let end = int_kernel(self.alloc, e, head.shown)?;
-        Ok(instruction_of(head, PlanOperation::Enter { name, end }, words))
+        Ok(instruction_of(
+            head,
+            PlanOperation::Control(ControlOperation::Enter { name, end }),
+            words,
+        ))
     }
 
     /// Keeps an index for an instruction that is known when the block after it stands. Answers the index.
@@ -245,7 +270,7 @@ impl Lowering<'_> {
         code.push(plain(
             head.number,
             head.shown,
-            PlanOperation::End,
+            PlanOperation::Control(ControlOperation::End),
             Vec::new(self.alloc),
         ))?;
         Ok(index)
@@ -416,7 +441,7 @@ impl Lowering<'_> {
             keep: depth,
             shown: depth,
             apply_schedule,
-            operation: operation_of_pair(pair),
+            operation: PlanOperation::Apply(operation_of_pair(pair)),
             words,
         })?;
         Ok(())
@@ -456,20 +481,20 @@ impl Lowering<'_> {
 }
 
 /// What two applies that are done together do.
-fn operation_of_pair(pair: FusedPair) -> PlanOperation
-    ensures { (keep shown : Depth) → IsOperation keep shown result (fused_pair_tree pair) }
+fn operation_of_pair(pair: FusedPair) -> ApplyOperation
+    ensures { (keep shown : Depth) → IsOperation keep shown (op.Apply result) (fused_pair_tree pair) }
 {
     match pair {
         FusedPair::Edges {
             ends,
             first,
             second,
-        } => PlanOperation::ApplyEdges {
+        } => ApplyOperation::ApplyEdges {
             ends,
             first,
             second: Some(second),
         },
-        FusedPair::Vertices { set, first, second } => PlanOperation::ApplyVertices {
+        FusedPair::Vertices { set, first, second } => ApplyOperation::ApplyVertices {
             set,
             first,
             second: Some(second),

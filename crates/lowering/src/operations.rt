@@ -12,7 +12,10 @@ ghost use Rattle.lowering.specs.inside.Kinds.{HasNoBlock, IsModified, IsOnSets, 
 use crate::fusing::edge_apply_of;
 use algorithm_meaning::Depth;
 use kernels::ExpressionKernel;
-use plans::{PlanOperation, SetExpression};
+use plans::{
+    ApplyOperation, ControlOperation, EntryOperation, PlanOperation, SetExpression, SetOperation,
+    ValueOperation,
+};
 use std::alloc::{AllocError, Global};
 use typed_tree::{BoolExpression, IntExpression, SetValue, StatementKind};
 
@@ -51,31 +54,31 @@ pub(crate) fn operation_of(
     match action {
         StatementKind::DeclareInt(name, e) => {
             let value = int_kernel(alloc, e, depth)?;
-            Ok(PlanOperation::DeclareInt { name: *name, value })
+            Ok(PlanOperation::Value(ValueOperation::DeclareInt { name: *name, value }))
         }
         StatementKind::DeclareBool(name, c) => {
             let value = bool_kernel(alloc, c, depth)?;
-            Ok(PlanOperation::DeclareBool { name: *name, value })
+            Ok(PlanOperation::Value(ValueOperation::DeclareBool { name: *name, value }))
         }
         StatementKind::SetInt(slot, e) => {
             let value = int_kernel(alloc, e, depth)?;
-            Ok(PlanOperation::SetInt { slot: *slot, value })
+            Ok(PlanOperation::Value(ValueOperation::SetInt { slot: *slot, value }))
         }
         StatementKind::SetBool(slot, c) => {
             let value = bool_kernel(alloc, c, depth)?;
-            Ok(PlanOperation::SetBool { slot: *slot, value })
+            Ok(PlanOperation::Value(ValueOperation::SetBool { slot: *slot, value }))
         }
         StatementKind::ReduceInt(slot, reduction, e) => {
             let value = int_kernel(alloc, e, depth)?;
-            Ok(PlanOperation::ReduceInt {
+            Ok(PlanOperation::Value(ValueOperation::ReduceInt {
                 slot: *slot,
                 reduction: *reduction,
                 value,
-            })
+            }))
         }
         StatementKind::PrintBool(c) => {
             let value = bool_kernel(alloc, c, depth)?;
-            Ok(PlanOperation::PrintBool { value })
+            Ok(PlanOperation::Value(ValueOperation::PrintBool { value }))
         }
         StatementKind::SetEntry(_, _, _)
         | StatementKind::ReduceEntry(_, _, _, _)
@@ -88,7 +91,7 @@ pub(crate) fn operation_of(
         StatementKind::If(_, _)
         | StatementKind::IfElse(_, _, _)
         | StatementKind::While(_, _)
-        | StatementKind::For(_, _, _, _) => Ok(PlanOperation::End),
+        | StatementKind::For(_, _, _, _) => Ok(PlanOperation::Control(ControlOperation::End)),
     }
 }
 
@@ -104,38 +107,38 @@ fn other_operation(
         StatementKind::SetEntry(vector, index, e) => {
             let index = int_kernel(alloc, index, depth)?;
             let value = int_kernel(alloc, e, depth)?;
-            Ok(PlanOperation::SetEntry {
+            Ok(PlanOperation::Entry(EntryOperation::SetEntry {
                 vector: *vector,
                 index,
                 value,
-            })
+            }))
         }
         StatementKind::ReduceEntry(vector, index, reduction, e) => {
             let index = int_kernel(alloc, index, depth)?;
             let value = int_kernel(alloc, e, depth)?;
-            Ok(PlanOperation::ReduceEntry {
+            Ok(PlanOperation::Entry(EntryOperation::ReduceEntry {
                 vector: *vector,
                 index,
                 reduction: *reduction,
                 value,
-            })
+            }))
         }
         StatementKind::AddVertex(slot, e) => {
             let vertex = int_kernel(alloc, e, depth)?;
-            Ok(PlanOperation::AddVertex {
+            Ok(PlanOperation::Value(ValueOperation::AddVertex {
                 slot: *slot,
                 vertex,
-            })
+            }))
         }
         StatementKind::PrintInt(e) => {
             let value = int_kernel(alloc, e, depth)?;
-            Ok(PlanOperation::PrintInt { value })
+            Ok(PlanOperation::Value(ValueOperation::PrintInt { value }))
         }
         StatementKind::DeclareSet(_, _)
         | StatementKind::AssignSet(_, _)
         | StatementKind::ApplyVertex(_, _)
         | StatementKind::ApplyEdges(_, _) => Ok(set_operation(action)),
-        _ => Ok(PlanOperation::End),
+        _ => Ok(PlanOperation::Control(ControlOperation::End)),
     }
 }
 
@@ -144,27 +147,29 @@ fn set_operation(action: &StatementKind) -> PlanOperation
     ensures { (keep shown : Depth) → IsOnSets (statement_kind_tree action.now) → IsOperation keep shown result (Do (statement_kind_tree action.now)) }
 {
     match action {
-        StatementKind::ApplyVertex(set, function) => PlanOperation::ApplyVertices {
-            set: *set,
-            first: *function,
-            second: None,
-        },
+        StatementKind::ApplyVertex(set, function) => PlanOperation::Apply(
+            ApplyOperation::ApplyVertices {
+                set: *set,
+                first: *function,
+                second: None,
+            },
+        ),
         StatementKind::DeclareSet(name, value) => match members_of(*value) {
-            Some(members) => PlanOperation::DeclareSet {
+            Some(members) => PlanOperation::Set(SetOperation::DeclareSet {
                 name: *name,
                 members,
-            },
+            }),
             None => edge_operation(action),
         },
         StatementKind::AssignSet(slot, value) => match members_of(*value) {
-            Some(members) => PlanOperation::AssignSet {
+            Some(members) => PlanOperation::Set(SetOperation::AssignSet {
                 slot: *slot,
                 members,
-            },
+            }),
             None => edge_operation(action),
         },
         StatementKind::ApplyEdges(_, _) => edge_operation(action),
-        _ => PlanOperation::End,
+        _ => PlanOperation::Control(ControlOperation::End),
     }
 }
 
@@ -174,12 +179,12 @@ fn edge_operation(action: &StatementKind) -> PlanOperation
         → IsOperation keep shown result (Do (statement_kind_tree action.now)) }
 {
     match edge_apply_of(action) {
-        Some(apply) => PlanOperation::ApplyEdges {
+        Some(apply) => PlanOperation::Apply(ApplyOperation::ApplyEdges {
             ends: apply.ends,
             first: apply.part,
             second: None,
-        },
-        None => PlanOperation::End,
+        }),
+        None => PlanOperation::Control(ControlOperation::End),
     }
 }
 

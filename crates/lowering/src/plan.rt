@@ -11,7 +11,7 @@ use crate::copies::copied;
 use crate::leaves::plain;
 use crate::visible::Visible;
 use plan_text::{Lines, end_line};
-use plans::{FunctionKernels, Instruction, Plan, PlanOperation};
+use plans::{ControlOperation, FunctionKernels, Instruction, Plan, PlanOperation};
 use schedule::Schedule;
 use std::alloc::{AllocError, Global};
 use std::snapshot::Snapshot;
@@ -62,7 +62,12 @@ fn instructions_of(
     lowering.put_all(&program.main, &mut visible, &mut code)?;
     let mut words = Vec::new(alloc);
     words.extend_from_slice(b"end ")?;
-    code.push(plain(0, visible.depth(), PlanOperation::End, words))?;
+    code.push(plain(
+        0,
+        visible.depth(),
+        PlanOperation::Control(ControlOperation::End),
+        words,
+    ))?;
     Ok(code)
 }
 

@@ -9,7 +9,7 @@ ghost use Rattle.lowering.specs.Text.{HasText, IsWritten, instruction_line, text
 
 use decimal::push_number;
 use plan_text::end_line;
-use plans::{Instruction, Plan, PlanOperation};
+use plans::{ControlOperation, Instruction, Plan, PlanOperation};
 use std::alloc::{AllocError, Global};
 
 /// The text of a plan: a line `fields` with names for each group of vectors, in the order of the schedule; then a line for
@@ -43,9 +43,11 @@ fn put_target(text: &mut Vec<u8>, operation: &PlanOperation) -> Result<(), Alloc
     ensures { OnOk result (text.new.items ≡ text.old.items ++ spaced (indices_of operation.now)) }
 {
     match operation {
-        PlanOperation::Unless { to, .. }
-        | PlanOperation::UnlessBelow { to, .. }
-        | PlanOperation::Jump { to } => {
+        PlanOperation::Control(
+            ControlOperation::Unless { to, .. }
+            | ControlOperation::UnlessBelow { to, .. }
+            | ControlOperation::Jump { to },
+        ) => {
             push_number(text, *to as u64)?;
             text.push(b' ')?;
         }

@@ -25,6 +25,11 @@ use Rattle.plans.specs.Operation.{part_tree, set_value, IsOperation, AreInstruct
 use Rattle.plans.specs.declared.instruction.Instruction.{Instruction}
 use Rattle.plans.specs.declared.operation.PlanOperation.{PlanOperation}
 use Rattle.plans.specs.declared.operation.PlanOperation.TheVariants as op
+use Rattle.plans.specs.declared.operation.ValueOperation.TheVariants as value_op
+use Rattle.plans.specs.declared.operation.EntryOperation.TheVariants as entry_op
+use Rattle.plans.specs.declared.operation.SetOperation.TheVariants as set_op
+use Rattle.plans.specs.declared.operation.ApplyOperation.TheVariants as apply_op
+use Rattle.plans.specs.declared.operation.ControlOperation.TheVariants as control_op
 use Rattle.plans.specs.inside.Outline.{outline, outline_of, most_steps_of}
 
 -- the bound sees no difference
@@ -86,29 +91,29 @@ jump_alike to = record { turn = refl; rank = λ count index b. by_test count ind
 
 -- of an operation it sees the outline
 sees_alike : (keep shown : Depth) (o : PlanOperation) (t : OperationTree) → IsOperation keep shown o t → SameBound (outline o) t
-sees_alike keep shown (op.DeclareInt name k) t is = subst (SameBound End) (sym is.is) (do_alike (DeclareInt name is.tree))
-sees_alike keep shown (op.DeclareBool name k) t is = subst (SameBound End) (sym is.is) (do_alike (DeclareBool name is.tree))
-sees_alike keep shown (op.SetInt slot k) t is = subst (SameBound End) (sym is.is) (do_alike (SetInt slot is.tree))
-sees_alike keep shown (op.SetBool slot k) t is = subst (SameBound End) (sym is.is) (do_alike (SetBool slot is.tree))
-sees_alike keep shown (op.ReduceInt slot reduction k) t is = subst (SameBound End) (sym is.is) (do_alike (ReduceInt slot reduction is.tree))
-sees_alike keep shown (op.SetEntry vector index k) t is = subst (SameBound End) (sym is.is) (do_alike (SetEntry vector is.index_tree is.value_tree))
-sees_alike keep shown (op.ReduceEntry vector index reduction k) t is = subst (SameBound End) (sym is.is) (do_alike (ReduceEntry vector is.index_tree reduction is.value_tree))
-sees_alike keep shown (op.DeclareSet name members) t is = subst (SameBound End) (sym is) (do_alike (DeclareSet name (set_value members)))
-sees_alike keep shown (op.AssignSet slot members) t is = subst (SameBound End) (sym is) (do_alike (AssignSet slot (set_value members)))
-sees_alike keep shown (op.AddVertex slot k) t is = subst (SameBound End) (sym is.is) (do_alike (AddVertex slot is.tree))
-sees_alike keep shown (op.PrintInt k) t is = subst (SameBound End) (sym is.is) (do_alike (PrintInt is.tree))
-sees_alike keep shown (op.PrintBool k) t is = subst (SameBound End) (sym is.is) (do_alike (PrintBool is.tree))
-sees_alike keep shown (op.ApplyVertices set first None) t is = subst (SameBound End) (sym is) (do_alike (ApplyVertex set first))
-sees_alike keep shown (op.ApplyVertices set first (Some second)) t is = subst (SameBound End) (sym is) (vertices_alike set first second)
-sees_alike keep shown (op.ApplyEdges ends first None) t is = subst (SameBound End) (sym is.is) (do_alike (is.action))
-sees_alike keep shown (op.ApplyEdges ends first (Some second)) t is = subst (SameBound End) (sym is) (edges_alike ends (part_tree first) (part_tree second))
-sees_alike keep shown (op.Unless k to) t is = subst (SameBound (Unless (Literal true) to)) (sym is.is) (unless_alike is.tree to)
-sees_alike keep shown (op.Enter name k) t is = subst (SameBound End) (sym is.is) (enter_alike name is.tree)
-sees_alike keep shown (op.UnlessBelow name to) t is = subst (SameBound (UnlessBelow name to)) (sym is) (itself_alike (UnlessBelow name to))
-sees_alike keep shown (op.Advance name) t is = subst (SameBound End) (sym is) (advance_alike name)
-sees_alike keep shown op.Turn t is = subst (SameBound Turn) (sym is) (itself_alike Turn)
-sees_alike keep shown (op.Jump to) t is = subst (SameBound End) (sym is) (jump_alike to)
-sees_alike keep shown op.End t is = subst (SameBound End) (sym is) (itself_alike End)
+sees_alike keep shown (op.Value (value_op.DeclareInt name k)) t is = subst (SameBound End) (sym is.is) (do_alike (DeclareInt name is.tree))
+sees_alike keep shown (op.Value (value_op.DeclareBool name k)) t is = subst (SameBound End) (sym is.is) (do_alike (DeclareBool name is.tree))
+sees_alike keep shown (op.Value (value_op.SetInt slot k)) t is = subst (SameBound End) (sym is.is) (do_alike (SetInt slot is.tree))
+sees_alike keep shown (op.Value (value_op.SetBool slot k)) t is = subst (SameBound End) (sym is.is) (do_alike (SetBool slot is.tree))
+sees_alike keep shown (op.Value (value_op.ReduceInt slot reduction k)) t is = subst (SameBound End) (sym is.is) (do_alike (ReduceInt slot reduction is.tree))
+sees_alike keep shown (op.Value (value_op.AddVertex slot k)) t is = subst (SameBound End) (sym is.is) (do_alike (AddVertex slot is.tree))
+sees_alike keep shown (op.Value (value_op.PrintInt k)) t is = subst (SameBound End) (sym is.is) (do_alike (PrintInt is.tree))
+sees_alike keep shown (op.Value (value_op.PrintBool k)) t is = subst (SameBound End) (sym is.is) (do_alike (PrintBool is.tree))
+sees_alike keep shown (op.Entry (entry_op.SetEntry vector index k)) t is = subst (SameBound End) (sym is.is) (do_alike (SetEntry vector is.index_tree is.value_tree))
+sees_alike keep shown (op.Entry (entry_op.ReduceEntry vector index reduction k)) t is = subst (SameBound End) (sym is.is) (do_alike (ReduceEntry vector is.index_tree reduction is.value_tree))
+sees_alike keep shown (op.Set (set_op.DeclareSet name members)) t is = subst (SameBound End) (sym is) (do_alike (DeclareSet name (set_value members)))
+sees_alike keep shown (op.Set (set_op.AssignSet slot members)) t is = subst (SameBound End) (sym is) (do_alike (AssignSet slot (set_value members)))
+sees_alike keep shown (op.Apply (apply_op.ApplyVertices set first None)) t is = subst (SameBound End) (sym is) (do_alike (ApplyVertex set first))
+sees_alike keep shown (op.Apply (apply_op.ApplyVertices set first (Some second))) t is = subst (SameBound End) (sym is) (vertices_alike set first second)
+sees_alike keep shown (op.Apply (apply_op.ApplyEdges ends first None)) t is = subst (SameBound End) (sym is.is) (do_alike (is.action))
+sees_alike keep shown (op.Apply (apply_op.ApplyEdges ends first (Some second))) t is = subst (SameBound End) (sym is) (edges_alike ends (part_tree first) (part_tree second))
+sees_alike keep shown (op.Control (control_op.Unless k to)) t is = subst (SameBound (Unless (Literal true) to)) (sym is.is) (unless_alike is.tree to)
+sees_alike keep shown (op.Control (control_op.Enter name k)) t is = subst (SameBound End) (sym is.is) (enter_alike name is.tree)
+sees_alike keep shown (op.Control (control_op.UnlessBelow name to)) t is = subst (SameBound (UnlessBelow name to)) (sym is) (itself_alike (UnlessBelow name to))
+sees_alike keep shown (op.Control (control_op.Advance name)) t is = subst (SameBound End) (sym is) (advance_alike name)
+sees_alike keep shown (op.Control control_op.Turn) t is = subst (SameBound Turn) (sym is) (itself_alike Turn)
+sees_alike keep shown (op.Control (control_op.Jump to)) t is = subst (SameBound End) (sym is) (jump_alike to)
+sees_alike keep shown (op.Control control_op.End) t is = subst (SameBound End) (sym is) (itself_alike End)
 
 abbrev SameAt : Option InstructionTree → Option InstructionTree → Type 0
 SameAt None None = Unit {0}

@@ -26,6 +26,11 @@ use Rattle.plans.specs.declared.set_expression.SetExpression.{SetExpression}
 use Rattle.plans.specs.declared.set_expression.SetExpression.TheVariants.{Nothing, All, Copy, Filter}
 use Rattle.plans.specs.declared.functions.FunctionKernels.{FunctionKernels}
 use Rattle.plans.specs.declared.operation.PlanOperation.TheVariants as op
+use Rattle.plans.specs.declared.operation.ValueOperation.TheVariants as value_op
+use Rattle.plans.specs.declared.operation.EntryOperation.TheVariants as entry_op
+use Rattle.plans.specs.declared.operation.SetOperation.TheVariants as set_op
+use Rattle.plans.specs.declared.operation.ApplyOperation.TheVariants as apply_op
+use Rattle.plans.specs.declared.operation.ControlOperation.TheVariants as control_op
 use Rattle.plans.specs.declared.part.PartResult.TheVariants as result
 
 -- the kernel is made for n visible variables
@@ -84,28 +89,28 @@ set_value (Filter slot function) = set.Filter slot function
 
 -- the operation is this one, where so much is kept and so much is shown
 abbrev pub IsOperation : (keep shown : Depth) → PlanOperation → OperationTree → Type 0
-IsOperation keep shown (op.DeclareInt name k) o = HasInteger keep k (λ e. Do (DeclareInt name e)) o
-IsOperation keep shown (op.DeclareBool name k) o = HasCondition keep k (λ c. Do (DeclareBool name c)) o
-IsOperation keep shown (op.SetInt slot k) o = HasInteger keep k (λ e. Do (SetInt slot e)) o
-IsOperation keep shown (op.SetBool slot k) o = HasCondition keep k (λ c. Do (SetBool slot c)) o
-IsOperation keep shown (op.ReduceInt slot reduction k) o = HasInteger keep k (λ e. Do (ReduceInt slot reduction e)) o
-IsOperation keep shown (op.SetEntry vector index k) o = HasEntry keep index k (λ i e. Do (SetEntry vector i e)) o
-IsOperation keep shown (op.ReduceEntry vector index reduction k) o = HasEntry keep index k (λ i e. Do (ReduceEntry vector i reduction e)) o
-IsOperation keep shown (op.DeclareSet name members) o = o ≡ Do (DeclareSet name (set_value members))
-IsOperation keep shown (op.AssignSet slot members) o = o ≡ Do (AssignSet slot (set_value members))
-IsOperation keep shown (op.AddVertex slot k) o = HasInteger keep k (λ e. Do (AddVertex slot e)) o
-IsOperation keep shown (op.PrintInt k) o = HasInteger keep k (λ e. Do (PrintInt e)) o
-IsOperation keep shown (op.PrintBool k) o = HasCondition keep k (λ c. Do (PrintBool c)) o
-IsOperation keep shown (op.ApplyVertices set first None) o = o ≡ Do (ApplyVertex set first)
-IsOperation keep shown (op.ApplyVertices set first (Some second)) o = o ≡ ApplyVerticesTogether set first second
-IsOperation keep shown (op.ApplyEdges ends first second) o = ApplyEdgesOf ends first second o
-IsOperation keep shown (op.Unless k to) o = HasCondition keep k (λ c. Unless c to) o
-IsOperation keep shown (op.Enter name k) o = HasInteger shown k (λ e. Enter name e) o
-IsOperation keep shown (op.UnlessBelow name to) o = o ≡ UnlessBelow name to
-IsOperation keep shown (op.Advance name) o = o ≡ Advance name
-IsOperation keep shown op.Turn o = o ≡ Turn
-IsOperation keep shown (op.Jump to) o = o ≡ Jump to
-IsOperation keep shown op.End o = o ≡ End
+IsOperation keep shown (op.Value (value_op.DeclareInt name k)) o = HasInteger keep k (λ e. Do (DeclareInt name e)) o
+IsOperation keep shown (op.Value (value_op.DeclareBool name k)) o = HasCondition keep k (λ c. Do (DeclareBool name c)) o
+IsOperation keep shown (op.Value (value_op.SetInt slot k)) o = HasInteger keep k (λ e. Do (SetInt slot e)) o
+IsOperation keep shown (op.Value (value_op.SetBool slot k)) o = HasCondition keep k (λ c. Do (SetBool slot c)) o
+IsOperation keep shown (op.Value (value_op.ReduceInt slot reduction k)) o = HasInteger keep k (λ e. Do (ReduceInt slot reduction e)) o
+IsOperation keep shown (op.Value (value_op.AddVertex slot k)) o = HasInteger keep k (λ e. Do (AddVertex slot e)) o
+IsOperation keep shown (op.Value (value_op.PrintInt k)) o = HasInteger keep k (λ e. Do (PrintInt e)) o
+IsOperation keep shown (op.Value (value_op.PrintBool k)) o = HasCondition keep k (λ c. Do (PrintBool c)) o
+IsOperation keep shown (op.Entry (entry_op.SetEntry vector index k)) o = HasEntry keep index k (λ i e. Do (SetEntry vector i e)) o
+IsOperation keep shown (op.Entry (entry_op.ReduceEntry vector index reduction k)) o = HasEntry keep index k (λ i e. Do (ReduceEntry vector i reduction e)) o
+IsOperation keep shown (op.Set (set_op.DeclareSet name members)) o = o ≡ Do (DeclareSet name (set_value members))
+IsOperation keep shown (op.Set (set_op.AssignSet slot members)) o = o ≡ Do (AssignSet slot (set_value members))
+IsOperation keep shown (op.Apply (apply_op.ApplyVertices set first None)) o = o ≡ Do (ApplyVertex set first)
+IsOperation keep shown (op.Apply (apply_op.ApplyVertices set first (Some second))) o = o ≡ ApplyVerticesTogether set first second
+IsOperation keep shown (op.Apply (apply_op.ApplyEdges ends first second)) o = ApplyEdgesOf ends first second o
+IsOperation keep shown (op.Control (control_op.Unless k to)) o = HasCondition keep k (λ c. Unless c to) o
+IsOperation keep shown (op.Control (control_op.Enter name k)) o = HasInteger shown k (λ e. Enter name e) o
+IsOperation keep shown (op.Control (control_op.UnlessBelow name to)) o = o ≡ UnlessBelow name to
+IsOperation keep shown (op.Control (control_op.Advance name)) o = o ≡ Advance name
+IsOperation keep shown (op.Control control_op.Turn) o = o ≡ Turn
+IsOperation keep shown (op.Control (control_op.Jump to)) o = o ≡ Jump to
+IsOperation keep shown (op.Control control_op.End) o = o ≡ End
 
 pub record IsInstruction (i : Instruction) (t : InstructionTree) : Type 0 where
   pub number : i.number ≡ t.number

@@ -35,7 +35,9 @@ pub use laws::{
     edge_applies_go_by_the_schedule, examples_have_their_plans, fused_applies_fit,
     plans_do_what_programs_do, steps_lower_their_bound,
 };
-pub use operation::PlanOperation;
+pub use operation::{
+    ApplyOperation, ControlOperation, EntryOperation, PlanOperation, SetOperation, ValueOperation,
+};
 pub use part::{EdgeApply, EdgePart, FusedPair, PartResult, VertexApply};
 pub use plan::Plan;
 pub use set_expression::SetExpression;

@@ -8,6 +8,15 @@ use typed_tree::{ApplyEnds, VarRef};
 /// What an instruction does. A name is the index of one in the plan's names, a vector or a function its index in its list,
 /// and `to` the index of an instruction.
 pub enum PlanOperation {
+    Value(ValueOperation),
+    Entry(EntryOperation),
+    Set(SetOperation),
+    Apply(ApplyOperation),
+    Control(ControlOperation),
+}
+
+/// Takes the value of an expression, and writes to no vector.
+pub enum ValueOperation {
     DeclareInt {
         name: usize,
         value: ExpressionKernel,
@@ -29,27 +38,6 @@ pub enum PlanOperation {
         reduction: Reduction,
         value: ExpressionKernel,
     },
-    /// The entry of a vector at an index gets a value.
-    SetEntry {
-        vector: usize,
-        index: ExpressionKernel,
-        value: ExpressionKernel,
-    },
-    /// The entry of a vector at an index is reduced with a value.
-    ReduceEntry {
-        vector: usize,
-        index: ExpressionKernel,
-        reduction: Reduction,
-        value: ExpressionKernel,
-    },
-    DeclareSet {
-        name: usize,
-        members: SetExpression,
-    },
-    AssignSet {
-        slot: VarRef,
-        members: SetExpression,
-    },
     /// The set gets a vertex.
     AddVertex {
         slot: VarRef,
@@ -61,6 +49,41 @@ pub enum PlanOperation {
     PrintBool {
         value: ExpressionKernel,
     },
+}
+
+/// Writes to the entry of a vector at an index.
+pub enum EntryOperation {
+    /// The entry gets a value.
+    SetEntry {
+        vector: usize,
+        index: ExpressionKernel,
+        value: ExpressionKernel,
+    },
+    /// The entry is reduced with a value.
+    ReduceEntry {
+        vector: usize,
+        index: ExpressionKernel,
+        reduction: Reduction,
+        value: ExpressionKernel,
+    },
+}
+
+/// Gives a vertex set its members.
+#[derive(Clone, Copy, Debug, PartialEq, Eq)]
+pub enum SetOperation {
+    DeclareSet {
+        name: usize,
+        members: SetExpression,
+    },
+    AssignSet {
+        slot: VarRef,
+        members: SetExpression,
+    },
+}
+
+/// Runs functions of the user.
+#[derive(Clone, Copy, Debug, PartialEq, Eq)]
+pub enum ApplyOperation {
     /// One vertex function, or two, at each member of a set.
     ApplyVertices {
         set: VarRef,
@@ -73,84 +96,83 @@ pub enum PlanOperation {
         first: EdgePart,
         second: Option<EdgePart>,
     },
+}
+
+/// Says where the run continues, or that it ends.
+pub enum ControlOperation {
     /// Continues at the index unless the test holds.
-    Unless {
-        test: ExpressionKernel,
-        to: usize,
-    },
+    Unless { test: ExpressionKernel, to: usize },
     /// A `for` whose name has its first value: the bound, which does not see the name.
-    Enter {
-        name: usize,
-        end: ExpressionKernel,
-    },
+    Enter { name: usize, end: ExpressionKernel },
     /// Leaves the innermost `for` for the index unless its value is below its bound.
-    UnlessBelow {
-        name: usize,
-        to: usize,
-    },
+    UnlessBelow { name: usize, to: usize },
     /// The innermost `for` continues to its next value.
-    Advance {
-        name: usize,
-    },
+    Advance { name: usize },
     /// Uses a turn, or ends the run.
     Turn,
-    Jump {
-        to: usize,
-    },
+    Jump { to: usize },
     End,
 }
 
 impl Drop for PlanOperation {
     fn drop(self) {
         match self {
-            PlanOperation::DeclareInt { name: _, value: _ }
-            | PlanOperation::DeclareBool { name: _, value: _ }
-            | PlanOperation::SetInt { slot: _, value: _ }
-            | PlanOperation::SetBool { slot: _, value: _ }
-            | PlanOperation::ReduceInt {
+            PlanOperation::Value(_)
+            | PlanOperation::Entry(_)
+            | PlanOperation::Set(_)
+            | PlanOperation::Apply(_)
+            | PlanOperation::Control(_) => {}
+        }
+    }
+}
+
+impl Drop for ValueOperation {
+    fn drop(self) {
+        match self {
+            ValueOperation::DeclareInt { name: _, value: _ }
+            | ValueOperation::DeclareBool { name: _, value: _ }
+            | ValueOperation::SetInt { slot: _, value: _ }
+            | ValueOperation::SetBool { slot: _, value: _ }
+            | ValueOperation::ReduceInt {
                 slot: _,
                 reduction: _,
                 value: _,
             }
-            | PlanOperation::SetEntry {
+            | ValueOperation::AddVertex { slot: _, vertex: _ }
+            | ValueOperation::PrintInt { value: _ }
+            | ValueOperation::PrintBool { value: _ } => {}
+        }
+    }
+}
+
+impl Drop for EntryOperation {
+    fn drop(self) {
+        match self {
+            EntryOperation::SetEntry {
                 vector: _,
                 index: _,
                 value: _,
             }
-            | PlanOperation::ReduceEntry {
+            | EntryOperation::ReduceEntry {
                 vector: _,
                 index: _,
                 reduction: _,
                 value: _,
-            }
-            | PlanOperation::DeclareSet {
-                name: _,
-                members: _,
-            }
-            | PlanOperation::AssignSet {
-                slot: _,
-                members: _,
-            }
-            | PlanOperation::AddVertex { slot: _, vertex: _ }
-            | PlanOperation::PrintInt { value: _ }
-            | PlanOperation::PrintBool { value: _ }
-            | PlanOperation::ApplyVertices {
-                set: _,
-                first: _,
-                second: _,
-            }
-            | PlanOperation::ApplyEdges {
-                ends: _,
-                first: _,
-                second: _,
-            }
-            | PlanOperation::Unless { test: _, to: _ }
-            | PlanOperation::Enter { name: _, end: _ }
-            | PlanOperation::UnlessBelow { name: _, to: _ }
-            | PlanOperation::Advance { name: _ }
-            | PlanOperation::Turn
-            | PlanOperation::Jump { to: _ }
-            | PlanOperation::End => {}
+            } => {}
+        }
+    }
+}
+
+impl Drop for ControlOperation {
+    fn drop(self) {
+        match self {
+            ControlOperation::Unless { test: _, to: _ }
+            | ControlOperation::Enter { name: _, end: _ }
+            | ControlOperation::UnlessBelow { name: _, to: _ }
+            | ControlOperation::Advance { name: _ }
+            | ControlOperation::Turn
+            | ControlOperation::Jump { to: _ }
+            | ControlOperation::End => {}
         }
     }
 }

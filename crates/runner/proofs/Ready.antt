@@ -14,6 +14,9 @@ use Rattle.plans.specs.declared.functions.FunctionKernels.{FunctionKernels}
 use Rattle.plans.specs.declared.instruction.Instruction.{Instruction}
 use Rattle.plans.specs.declared.operation.PlanOperation.{PlanOperation}
 use Rattle.plans.specs.declared.operation.PlanOperation.TheVariants as op
+use Rattle.plans.specs.declared.operation.ValueOperation.TheVariants as value_op
+use Rattle.plans.specs.declared.operation.EntryOperation.TheVariants as entry_op
+use Rattle.plans.specs.declared.operation.ControlOperation.TheVariants as control_op
 use Rattle.plans.specs.declared.plan.Plan.{Plan}
 use Rattle.plans.specs.Operation.{kernel_at, IsFor, IsInstruction, IsOperation}
 use Rattle.run_state.specs.VertexKernels.{IsVertexKernel}
@@ -22,54 +25,50 @@ use Rattle.runner.proofs.Partners.{partner_at}
 
 -- an operation of a tree is ready
 ready : (keep shown : Depth) (o : PlanOperation) (t : OperationTree) → IsOperation keep shown o t → IsReady keep shown o
-ready keep shown (op.DeclareInt name k) t is = is.visible
-ready keep shown (op.DeclareBool name k) t is = is.visible
-ready keep shown (op.SetInt slot k) t is = is.visible
-ready keep shown (op.SetBool slot k) t is = is.visible
-ready keep shown (op.ReduceInt slot reduction k) t is = is.visible
-ready keep shown (op.SetEntry vector index k) t is = (is.index_visible, is.value_visible)
-ready keep shown (op.ReduceEntry vector index reduction k) t is = (is.index_visible, is.value_visible)
-ready keep shown (op.DeclareSet name members) t is = tt
-ready keep shown (op.AssignSet slot members) t is = tt
-ready keep shown (op.AddVertex slot k) t is = is.visible
-ready keep shown (op.PrintInt k) t is = is.visible
-ready keep shown (op.PrintBool k) t is = is.visible
-ready keep shown (op.ApplyVertices set first second) t is = tt
-ready keep shown (op.ApplyEdges ends first second) t is = tt
-ready keep shown (op.Unless k to) t is = is.visible
-ready keep shown (op.Enter name k) t is = is.visible
-ready keep shown (op.UnlessBelow name to) t is = tt
-ready keep shown (op.Advance name) t is = tt
-ready keep shown op.Turn t is = tt
-ready keep shown (op.Jump to) t is = tt
-ready keep shown op.End t is = tt
+ready keep shown (op.Value (value_op.DeclareInt name k)) t is = is.visible
+ready keep shown (op.Value (value_op.DeclareBool name k)) t is = is.visible
+ready keep shown (op.Value (value_op.SetInt slot k)) t is = is.visible
+ready keep shown (op.Value (value_op.SetBool slot k)) t is = is.visible
+ready keep shown (op.Value (value_op.ReduceInt slot reduction k)) t is = is.visible
+ready keep shown (op.Value (value_op.AddVertex slot k)) t is = is.visible
+ready keep shown (op.Value (value_op.PrintInt k)) t is = is.visible
+ready keep shown (op.Value (value_op.PrintBool k)) t is = is.visible
+ready keep shown (op.Entry (entry_op.SetEntry vector index k)) t is = (is.index_visible, is.value_visible)
+ready keep shown (op.Entry (entry_op.ReduceEntry vector index reduction k)) t is = (is.index_visible, is.value_visible)
+ready keep shown (op.Set set) t is = tt
+ready keep shown (op.Apply apply) t is = tt
+ready keep shown (op.Control (control_op.Unless k to)) t is = is.visible
+ready keep shown (op.Control (control_op.Enter name k)) t is = is.visible
+ready keep shown (op.Control (control_op.UnlessBelow name to)) t is = tt
+ready keep shown (op.Control (control_op.Advance name)) t is = tt
+ready keep shown (op.Control control_op.Turn) t is = tt
+ready keep shown (op.Control (control_op.Jump to)) t is = tt
+ready keep shown (op.Control control_op.End) t is = tt
 
 -- there is one proof of it at most
 for_once : (d : Depth) (k : ExpressionKernel) (x y : IsFor d k) → x ≡ y
 for_once d k x y = λ i. record { integers = ℕ_set _ _ x.integers y.integers i; conditions = ℕ_set _ _ x.conditions y.conditions i }
 
 ready_once : (keep shown : Depth) (o : PlanOperation) (x y : IsReady keep shown o) → x ≡ y
-ready_once keep shown (op.DeclareInt name k) x y = for_once keep k x y
-ready_once keep shown (op.DeclareBool name k) x y = for_once keep k x y
-ready_once keep shown (op.SetInt slot k) x y = for_once keep k x y
-ready_once keep shown (op.SetBool slot k) x y = for_once keep k x y
-ready_once keep shown (op.ReduceInt slot reduction k) x y = for_once keep k x y
-ready_once keep shown (op.SetEntry vector index k) x y = λ i. (for_once keep index x.0 y.0 i, for_once keep k x.1 y.1 i)
-ready_once keep shown (op.ReduceEntry vector index reduction k) x y = λ i. (for_once keep index x.0 y.0 i, for_once keep k x.1 y.1 i)
-ready_once keep shown (op.DeclareSet name members) x y = refl
-ready_once keep shown (op.AssignSet slot members) x y = refl
-ready_once keep shown (op.AddVertex slot k) x y = for_once keep k x y
-ready_once keep shown (op.PrintInt k) x y = for_once keep k x y
-ready_once keep shown (op.PrintBool k) x y = for_once keep k x y
-ready_once keep shown (op.ApplyVertices set first second) x y = refl
-ready_once keep shown (op.ApplyEdges ends first second) x y = refl
-ready_once keep shown (op.Unless k to) x y = for_once keep k x y
-ready_once keep shown (op.Enter name k) x y = for_once shown k x y
-ready_once keep shown (op.UnlessBelow name to) x y = refl
-ready_once keep shown (op.Advance name) x y = refl
-ready_once keep shown op.Turn x y = refl
-ready_once keep shown (op.Jump to) x y = refl
-ready_once keep shown op.End x y = refl
+ready_once keep shown (op.Value (value_op.DeclareInt name k)) x y = for_once keep k x y
+ready_once keep shown (op.Value (value_op.DeclareBool name k)) x y = for_once keep k x y
+ready_once keep shown (op.Value (value_op.SetInt slot k)) x y = for_once keep k x y
+ready_once keep shown (op.Value (value_op.SetBool slot k)) x y = for_once keep k x y
+ready_once keep shown (op.Value (value_op.ReduceInt slot reduction k)) x y = for_once keep k x y
+ready_once keep shown (op.Value (value_op.AddVertex slot k)) x y = for_once keep k x y
+ready_once keep shown (op.Value (value_op.PrintInt k)) x y = for_once keep k x y
+ready_once keep shown (op.Value (value_op.PrintBool k)) x y = for_once keep k x y
+ready_once keep shown (op.Entry (entry_op.SetEntry vector index k)) x y = λ i. (for_once keep index x.0 y.0 i, for_once keep k x.1 y.1 i)
+ready_once keep shown (op.Entry (entry_op.ReduceEntry vector index reduction k)) x y = λ i. (for_once keep index x.0 y.0 i, for_once keep k x.1 y.1 i)
+ready_once keep shown (op.Set set) x y = refl
+ready_once keep shown (op.Apply apply) x y = refl
+ready_once keep shown (op.Control (control_op.Unless k to)) x y = for_once keep k x y
+ready_once keep shown (op.Control (control_op.Enter name k)) x y = for_once shown k x y
+ready_once keep shown (op.Control (control_op.UnlessBelow name to)) x y = refl
+ready_once keep shown (op.Control (control_op.Advance name)) x y = refl
+ready_once keep shown (op.Control control_op.Turn) x y = refl
+ready_once keep shown (op.Control (control_op.Jump to)) x y = refl
+ready_once keep shown (op.Control control_op.End) x y = refl
 
 -- so each instruction of a plan is
 pub instruction_ready : (plan : Plan) (index : ℕ) (i : Instruction) → slice_get plan.instructions.items index ≡ Some i → IsReady i.keep i.shown i.operation

@@ -24,6 +24,7 @@ use Rattle.plans.proofs.Whole.{steps_lower}
 use Rattle.plans.specs.inside.Outline.{most_steps_of}
 use Rattle.plans.specs.declared.instruction.Instruction.{Instruction}
 use Rattle.plans.specs.declared.operation.PlanOperation.TheVariants as op
+use Rattle.plans.specs.declared.operation.ApplyOperation.TheVariants as apply_op
 use Rattle.plans.specs.declared.plan.Plan.{Plan}
 use Rattle.plans.specs.Operation.{IsInstruction, IsOperation}
 use Rattle.plans.proofs.Bounds.{same_bound}
@@ -77,7 +78,7 @@ loop_goes_on here loops old new x s was is =
 
 -- an apply of one vertex function, or of two
 pub vertices_done : (i : Instruction) (old new : Memory) (p : ProgramTree) (g : GraphValue) (keep shown : Depth) (set : VarRef) (first : ℕ) (second : Option ℕ) (t : OperationTree)
-    → IsOperation keep shown (op.ApplyVertices set first second) t → FitTogether p t
+    → IsOperation keep shown (op.Apply (apply_op.ApplyVertices set first second)) t → FitTogether p t
     → (second ≡ None → HasDone i Next old new p g (Do (ApplyVertex set first)))
     → ((index : ℕ) → second ≡ Some index → FitTogether p (ApplyVerticesTogether set first index) → HasDone i Next old new p g (ApplyVerticesTogether set first index))
     → HasDone i Next old new p g t

@@ -9,6 +9,7 @@ ghost use Rattle.plans.specs.Fused.{FitTogether};
 ghost use Rattle.plans.specs.Instruction.{OperationTree};
 ghost use Rattle.plans.specs.Reducing.{OperationReduces};
 ghost use Rattle.plans.specs.declared.operation.PlanOperation.TheVariants as op;
+ghost use Rattle.plans.specs.declared.operation.ApplyOperation.TheVariants as apply_op;
 ghost use Rattle.run_state.specs.State.{graph_value, with_state};
 ghost use Rattle.run_state.specs.SetUpdate.{IsUpdateOf};
 ghost use Rattle.run_state.specs.VertexKernels.{IsVertexKernel};
@@ -56,7 +57,7 @@ impl Memory {
     ) -> Result<(), AllocError>
         requires known { ∥ HaveTrees functions.now ∥₁ }
         ensures done { OnOk result ((p : ProgramTree) (g : GraphValue) (t : OperationTree) → AreFunctionKernels functions.now p
-            → IsOperation instruction.now.keep instruction.now.shown (op.ApplyVertices set first second) t → FitTogether p t
+            → IsOperation instruction.now.keep instruction.now.shown (op.Apply (apply_op.ApplyVertices set first second)) t → FitTogether p t
             → HasDone instruction.now Flow.Next self.old self.new p g t) }
         ensures turns { OnOk result (self.new.state.state.turns ≡ self.old.state.state.turns) }
         ensures vertices { self.new.state.vertices ≡ self.old.state.vertices }

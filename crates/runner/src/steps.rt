@@ -10,8 +10,9 @@ ghost use Rattle.plans.specs.Plan.{plan_of};
 ghost use Rattle.plans.specs.PlanOf.{IsPlan};
 ghost use Rattle.plans.specs.Reducing.{AppliesReduce, OperationReduces};
 ghost use Rattle.plans.specs.Operation.{AreFunctionKernels, IsInstruction, IsOperation};
+ghost use Rattle.plans.specs.declared.operation.PlanOperation.TheVariants as op;
 ghost use Rattle.run_state.specs.State.{graph_value};
-ghost use Rattle.runner.specs.inside.Done.{HasDone, HaveTrees, IsAsBefore, IsControl, IsKept, IsLevel, IsReady, TakesValues, WritesEntry};
+ghost use Rattle.runner.specs.inside.Done.{HasDone, HaveTrees, IsAsBefore, IsKept, IsLevel, IsReady};
 ghost use Rattle.runner.specs.inside.Groups.{AreGroupsOf};
 ghost use Rattle.runner.specs.inside.Position.{configuration_of, IsOn, steps_left};
 ghost use Rattle.runner.specs.Resting.{resting};
@@ -23,7 +24,10 @@ use crate::memory::Memory;
 use crate::plan_run::PlanRun;
 use algorithm_meaning::End;
 use flat_snapshot::Flat;
-use plans::{Instruction, Plan, PlanOperation};
+use plans::{
+    ApplyOperation, ControlOperation, EntryOperation, FunctionKernels, Instruction, Plan,
+    PlanOperation, SetOperation, ValueOperation,
+};
 use std::alloc::{AllocError, Global};
 
 impl PlanRun {
@@ -96,128 +100,168 @@ impl Memory {
     {
         let functions = &plan.functions;
         match &i.operation {
-            PlanOperation::DeclareSet { name, members } => {
-                self.declare_set(alloc, functions, i, *name, *members)?;
+            PlanOperation::Value(value) => self.evaluate(i, value),
+            PlanOperation::Entry(entry) => {
+                by.forget_vectors();
+                self.write_entry(i, entry)
+            }
+            PlanOperation::Set(set) => self.write_set(alloc, functions, i, *set),
+            PlanOperation::Apply(apply) => self.apply(alloc, functions, graph, i, *apply, by),
+            PlanOperation::Control(control) => self.go_on(i, control),
+        }
+    }
+
+    /// Does an instruction that takes the value of an expression, and is followed by that at the next index.
+    fn evaluate(&mut self, i: &Instruction, value: &ValueOperation) -> Result<Flow, AllocError>
+        requires kept { IsKept i.now.keep self.old.state.state }
+        requires ready { IsReady i.now.keep i.now.shown (op.Value value.now) }
+        ensures done { IfOk result (λ flow. (p : ProgramTree) (g : GraphValue) (t : OperationTree) → IsOn g self.old
+            → IsOperation i.now.keep i.now.shown (op.Value value.now) t → HasDone i.now flow self.old self.new p g t) }
+        ensures vectors { self.new.state.state.vectors ≡ self.old.state.state.vectors }
+        ensures vertices { self.new.state.vertices ≡ self.old.state.vertices }
+        ensures groups { self.new.state.groups ≡ self.old.state.groups }
+        ensures err { OnErr result (IsAsBefore self.old self.new) }
+    {
+        match value {
+            ValueOperation::DeclareInt { name: _, value } => self.declare_int(i, value),
+            ValueOperation::DeclareBool { name: _, value } => self.declare_bool(i, value),
+            ValueOperation::SetInt { slot, value } => self.set_int(i, *slot, value),
+            ValueOperation::SetBool { slot, value } => self.set_bool(i, *slot, value),
+            ValueOperation::ReduceInt {
+                slot,
+                reduction,
+                value,
+            } => self.reduce_int(i, *slot, *reduction, value),
+            ValueOperation::AddVertex { slot, vertex } => self.add_vertex(i, *slot, vertex),
+            ValueOperation::PrintInt { value } => self.print_int(i, value),
+            ValueOperation::PrintBool { value } => self.print_bool(i, value),
+        }
+    }
+
+    /// Does an instruction that writes to an entry of a vector.
+    fn write_entry(&mut self, i: &Instruction, entry: &EntryOperation) -> Result<Flow, AllocError>
+        requires kept { IsKept i.now.keep self.old.state.state }
+        requires ready { IsReady i.now.keep i.now.shown (op.Entry entry.now) }
+        ensures done { IfOk result (λ flow. (p : ProgramTree) (g : GraphValue) (t : OperationTree) → IsOn g self.old
+            → IsOperation i.now.keep i.now.shown (op.Entry entry.now) t → HasDone i.now flow self.old self.new p g t) }
+        ensures vertices { self.new.state.vertices ≡ self.old.state.vertices }
+        ensures groups { self.new.state.groups ≡ self.old.state.groups }
+        ensures err { OnErr result (IsAsBefore self.old self.new) }
+    {
+        match entry {
+            EntryOperation::SetEntry {
+                vector,
+                index,
+                value,
+            } => self.set_entry(i, *vector, index, value),
+            EntryOperation::ReduceEntry {
+                vector,
+                index,
+                reduction,
+                value,
+            } => self.reduce_entry(i, *vector, index, *reduction, value),
+        }
+    }
+
+    /// Does an instruction that gives a vertex set its members.
+    fn write_set(
+        &mut self,
+        alloc: Global,
+        functions: &FunctionKernels,
+        i: &Instruction,
+        set: SetOperation,
+    ) -> Result<Flow, AllocError>
+        ensures done { IfOk result (λ flow. (p : ProgramTree) (g : GraphValue) (t : OperationTree) → IsOn g self.old → AreFunctionKernels functions.now p
+            → IsOperation i.now.keep i.now.shown (op.Set set) t → HasDone i.now flow self.old self.new p g t) }
+        ensures level { IfOk result (λ flow. (p : ProgramTree) (g : GraphValue) (t : OperationTree)
+            → IsOperation i.now.keep i.now.shown (op.Set set) t → IsLevel i.now flow self.old self.new p g t) }
+        ensures vectors { OnOk result (self.new.state.state.vectors ≡ self.old.state.state.vectors) }
+        ensures vertices { self.new.state.vertices ≡ self.old.state.vertices }
+        ensures groups { self.new.state.groups ≡ self.old.state.groups }
+        ensures err { OnErr result (IsAsBefore self.old self.new) }
+    {
+        match set {
+            SetOperation::DeclareSet { name, members } => {
+                self.declare_set(alloc, functions, i, name, members)?;
                 Ok(Flow::Next)
             }
-            PlanOperation::AssignSet { slot, members } => {
-                self.assign_set(alloc, functions, i, *slot, *members)?;
+            SetOperation::AssignSet { slot, members } => {
+                self.assign_set(alloc, functions, i, slot, members)?;
                 Ok(Flow::Next)
             }
-            PlanOperation::ApplyVertices { set, first, second } => {
-                self.apply_vertices(functions, i, *set, *first, *second)?;
+        }
+    }
+
+    /// Does an instruction that runs functions of the user.
+    fn apply<E: EdgeApplier>(
+        &mut self,
+        alloc: Global,
+        functions: &FunctionKernels,
+        graph: &Flat,
+        i: &Instruction,
+        apply: ApplyOperation,
+        by: &mut E,
+    ) -> Result<Flow, AllocError>
+        requires known { ∥ HaveTrees functions.now ∥₁ }
+        requires graph { self.old.state.vertices ≡ graph.now.vertices }
+        requires applier { E.is_ready by.old functions.now graph.now }
+        requires knows { E.knows by.old self.old.state.state.vectors }
+        ensures applier { E.is_ready by.new functions.now graph.now }
+        ensures knows { IfOk result (λ flow. E.knows by.new self.new.state.state.vectors) }
+        ensures done { IfOk result (λ flow. (p : ProgramTree) (t : OperationTree) → AreFunctionKernels functions.now p
+            → IsOperation i.now.keep i.now.shown (op.Apply apply) t → FitTogether p t → OperationReduces p t
+            → HasDone i.now flow self.old self.new p (graph_value graph.now) t) }
+        ensures level { IfOk result (λ flow. (p : ProgramTree) (t : OperationTree)
+            → IsOperation i.now.keep i.now.shown (op.Apply apply) t → IsLevel i.now flow self.old self.new p (graph_value graph.now) t) }
+        ensures vertices { self.new.state.vertices ≡ self.old.state.vertices }
+        ensures groups { self.new.state.groups ≡ self.old.state.groups }
+        ensures err { OnErr result (IsAsBefore self.old self.new) }
+    {
+        match apply {
+            ApplyOperation::ApplyVertices { set, first, second } => {
+                self.apply_vertices(functions, i, set, first, second)?;
                 by.forget_vectors();
                 Ok(Flow::Next)
             }
-            PlanOperation::ApplyEdges {
+            ApplyOperation::ApplyEdges {
                 ends,
                 first,
                 second,
             } => {
                 let applies = EdgeApplies {
                     graph,
-                    ends: *ends,
-                    first: *first,
-                    second: *second,
+                    ends,
+                    first,
+                    second,
                 };
                 self.apply_edges(alloc, functions, i, applies, by)?;
                 Ok(Flow::Next)
             }
-            PlanOperation::Unless { .. }
-            | PlanOperation::Enter { .. }
-            | PlanOperation::UnlessBelow { .. }
-            | PlanOperation::Advance { .. }
-            | PlanOperation::Turn
-            | PlanOperation::Jump { .. }
-            | PlanOperation::End => self.go_on(i),
-            PlanOperation::SetEntry { .. } | PlanOperation::ReduceEntry { .. } => {
-                by.forget_vectors();
-                self.write_entry(i)
-            }
-            _ => self.evaluate(i),
         }
     }
 
     /// Does an instruction that says where the run continues, or that it ends.
-    fn go_on(&mut self, i: &Instruction) -> Result<Flow, AllocError>
+    fn go_on(&mut self, i: &Instruction, control: &ControlOperation) -> Result<Flow, AllocError>
         requires kept { IsKept i.now.keep self.old.state.state }
-        requires ready { IsReady i.now.keep i.now.shown i.now.operation }
-        requires control { IsControl i.now.operation }
+        requires ready { IsReady i.now.keep i.now.shown (op.Control control.now) }
         ensures done { IfOk result (λ flow. (p : ProgramTree) (g : GraphValue) (t : OperationTree) → IsOn g self.old
-            → IsOperation i.now.keep i.now.shown i.now.operation t → HasDone i.now flow self.old self.new p g t) }
+            → IsOperation i.now.keep i.now.shown (op.Control control.now) t → HasDone i.now flow self.old self.new p g t) }
         ensures vectors { self.new.state.state.vectors ≡ self.old.state.state.vectors }
         ensures vertices { self.new.state.vertices ≡ self.old.state.vertices }
         ensures groups { self.new.state.groups ≡ self.old.state.groups }
         ensures err { OnErr result (IsAsBefore self.old self.new) }
     {
-        match &i.operation {
-            PlanOperation::Unless { test, to } => self.unless(i, test, *to),
-            PlanOperation::Enter { name: _, end } => self.enter(i, end),
-            PlanOperation::UnlessBelow { name: _, to } => Ok(self.unless_below(i, *to)),
-            PlanOperation::Advance { name: _ } => {
+        match control {
+            ControlOperation::Unless { test, to } => self.unless(i, test, *to),
+            ControlOperation::Enter { name: _, end } => self.enter(i, end),
+            ControlOperation::UnlessBelow { name: _, to } => Ok(self.unless_below(i, *to)),
+            ControlOperation::Advance { name: _ } => {
                 self.advance(i)?;
                 Ok(Flow::Next)
             }
-            PlanOperation::Turn => Ok(self.turn(i)),
-            PlanOperation::Jump { to } => Ok(Flow::Goto(*to)),
-            PlanOperation::End => Ok(Flow::Ended(End::Finished)),
-            _ => unreachable!(),
-        }
-    }
-
-    /// Does an instruction that writes to an entry of a vector.
-    fn write_entry(&mut self, i: &Instruction) -> Result<Flow, AllocError>
-        requires kept { IsKept i.now.keep self.old.state.state }
-        requires ready { IsReady i.now.keep i.now.shown i.now.operation }
-        requires entry { WritesEntry i.now.operation }
-        ensures done { IfOk result (λ flow. (p : ProgramTree) (g : GraphValue) (t : OperationTree) → IsOn g self.old
-            → IsOperation i.now.keep i.now.shown i.now.operation t → HasDone i.now flow self.old self.new p g t) }
-        ensures vertices { self.new.state.vertices ≡ self.old.state.vertices }
-        ensures groups { self.new.state.groups ≡ self.old.state.groups }
-        ensures err { OnErr result (IsAsBefore self.old self.new) }
-    {
-        match &i.operation {
-            PlanOperation::SetEntry {
-                vector,
-                index,
-                value,
-            } => self.set_entry(i, *vector, index, value),
-            PlanOperation::ReduceEntry {
-                vector,
-                index,
-                reduction,
-                value,
-            } => self.reduce_entry(i, *vector, index, *reduction, value),
-            _ => unreachable!(),
-        }
-    }
-
-    /// Does an instruction that takes values of expressions and writes to no vector, and is followed by that at the next index.
-    fn evaluate(&mut self, i: &Instruction) -> Result<Flow, AllocError>
-        requires kept { IsKept i.now.keep self.old.state.state }
-        requires ready { IsReady i.now.keep i.now.shown i.now.operation }
-        requires values { TakesValues i.now.operation }
-        ensures done { IfOk result (λ flow. (p : ProgramTree) (g : GraphValue) (t : OperationTree) → IsOn g self.old
-            → IsOperation i.now.keep i.now.shown i.now.operation t → HasDone i.now flow self.old self.new p g t) }
-        ensures vectors { self.new.state.state.vectors ≡ self.old.state.state.vectors }
-        ensures vertices { self.new.state.vertices ≡ self.old.state.vertices }
-        ensures groups { self.new.state.groups ≡ self.old.state.groups }
-        ensures err { OnErr result (IsAsBefore self.old self.new) }
-    {
-        match &i.operation {
-            PlanOperation::DeclareInt { name: _, value } => self.declare_int(i, value),
-            PlanOperation::DeclareBool { name: _, value } => self.declare_bool(i, value),
-            PlanOperation::SetInt { slot, value } => self.set_int(i, *slot, value),
-            PlanOperation::SetBool { slot, value } => self.set_bool(i, *slot, value),
-            PlanOperation::ReduceInt {
-                slot,
-                reduction,
-                value,
-            } => self.reduce_int(i, *slot, *reduction, value),
-            PlanOperation::AddVertex { slot, vertex } => self.add_vertex(i, *slot, vertex),
-            PlanOperation::PrintInt { value } => self.print_int(i, value),
-            PlanOperation::PrintBool { value } => self.print_bool(i, value),
-            _ => unreachable!(),
+            ControlOperation::Turn => Ok(self.turn(i)),
+            ControlOperation::Jump { to } => Ok(Flow::Goto(*to)),
+            ControlOperation::End => Ok(Flow::Ended(End::Finished)),
         }
     }
 }

@@ -7,12 +7,13 @@ use Rattle.plans.specs.declared.instruction.Instruction.{Instruction}
 use Rattle.plans.specs.Machine.{Configuration}
 use Rattle.plans.specs.Bound.{most_steps}
 use Rattle.plans.specs.declared.operation.PlanOperation.TheVariants as op
+use Rattle.plans.specs.declared.operation.ControlOperation.TheVariants as control_op
 
 -- an operation as the bound sees it: where it may go, and whether it uses a turn
 abbrev pub outline : PlanOperation → OperationTree
-outline (op.Unless test to) = Unless (Literal true) to
-outline (op.UnlessBelow name to) = UnlessBelow name to
-outline op.Turn = Turn
+outline (op.Control (control_op.Unless test to)) = Unless (Literal true) to
+outline (op.Control (control_op.UnlessBelow name to)) = UnlessBelow name to
+outline (op.Control control_op.Turn) = Turn
 outline _ = End
 
 abbrev pub outline_of : Instruction → InstructionTree

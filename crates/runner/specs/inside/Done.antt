@@ -12,6 +12,9 @@ use Rattle.plans.specs.declared.functions.FunctionKernels.{FunctionKernels}
 use Rattle.plans.specs.Instruction.{OperationTree}
 use Rattle.plans.specs.declared.instruction.Instruction.{Instruction}
 use Rattle.plans.specs.declared.operation.PlanOperation.TheVariants as op
+use Rattle.plans.specs.declared.operation.ValueOperation.TheVariants as value_op
+use Rattle.plans.specs.declared.operation.EntryOperation.TheVariants as entry_op
+use Rattle.plans.specs.declared.operation.ControlOperation.TheVariants as control_op
 use Rattle.runner.specs.declared.flow.Flow.{Flow}
 use Rattle.runner.specs.declared.memory.Memory.{Memory}
 use Rattle.runner.specs.inside.Position.{loops_of}
@@ -30,56 +33,25 @@ after_flow (flow.Ended end) number shown index loops s = Ended (forget_beyond sh
 
 -- its kernels are made for what is visible
 abbrev pub IsReady : (keep shown : Depth) → PlanOperation → Type 0
-IsReady keep shown (op.DeclareInt name k) = IsFor keep k
-IsReady keep shown (op.DeclareBool name k) = IsFor keep k
-IsReady keep shown (op.SetInt slot k) = IsFor keep k
-IsReady keep shown (op.SetBool slot k) = IsFor keep k
-IsReady keep shown (op.ReduceInt slot reduction k) = IsFor keep k
-IsReady keep shown (op.SetEntry vector index k) = IsFor keep index × IsFor keep k
-IsReady keep shown (op.ReduceEntry vector index reduction k) = IsFor keep index × IsFor keep k
-IsReady keep shown (op.DeclareSet name members) = Unit {0}
-IsReady keep shown (op.AssignSet slot members) = Unit {0}
-IsReady keep shown (op.AddVertex slot k) = IsFor keep k
-IsReady keep shown (op.PrintInt k) = IsFor keep k
-IsReady keep shown (op.PrintBool k) = IsFor keep k
-IsReady keep shown (op.ApplyVertices set first second) = Unit {0}
-IsReady keep shown (op.ApplyEdges ends first second) = Unit {0}
-IsReady keep shown (op.Unless k to) = IsFor keep k
-IsReady keep shown (op.Enter name k) = IsFor shown k
-IsReady keep shown (op.UnlessBelow name to) = Unit {0}
-IsReady keep shown (op.Advance name) = Unit {0}
-IsReady keep shown op.Turn = Unit {0}
-IsReady keep shown (op.Jump to) = Unit {0}
-IsReady keep shown op.End = Unit {0}
-
--- it says where the run continues, or that it ends
-abbrev pub IsControl : PlanOperation → Type 0
-IsControl (op.Unless k to) = Unit {0}
-IsControl (op.Enter name k) = Unit {0}
-IsControl (op.UnlessBelow name to) = Unit {0}
-IsControl (op.Advance name) = Unit {0}
-IsControl op.Turn = Unit {0}
-IsControl (op.Jump to) = Unit {0}
-IsControl op.End = Unit {0}
-IsControl other = ⊥
-
--- it writes to an entry of a vector
-abbrev pub WritesEntry : PlanOperation → Type 0
-WritesEntry (op.SetEntry vector index k) = Unit {0}
-WritesEntry (op.ReduceEntry vector index reduction k) = Unit {0}
-WritesEntry other = ⊥
-
--- it takes values of expressions, writes to no vector, and is followed by the instruction at the next index
-abbrev pub TakesValues : PlanOperation → Type 0
-TakesValues (op.DeclareInt name k) = Unit {0}
-TakesValues (op.DeclareBool name k) = Unit {0}
-TakesValues (op.SetInt slot k) = Unit {0}
-TakesValues (op.SetBool slot k) = Unit {0}
-TakesValues (op.ReduceInt slot reduction k) = Unit {0}
-TakesValues (op.AddVertex slot k) = Unit {0}
-TakesValues (op.PrintInt k) = Unit {0}
-TakesValues (op.PrintBool k) = Unit {0}
-TakesValues other = ⊥
+IsReady keep shown (op.Value (value_op.DeclareInt name k)) = IsFor keep k
+IsReady keep shown (op.Value (value_op.DeclareBool name k)) = IsFor keep k
+IsReady keep shown (op.Value (value_op.SetInt slot k)) = IsFor keep k
+IsReady keep shown (op.Value (value_op.SetBool slot k)) = IsFor keep k
+IsReady keep shown (op.Value (value_op.ReduceInt slot reduction k)) = IsFor keep k
+IsReady keep shown (op.Value (value_op.AddVertex slot k)) = IsFor keep k
+IsReady keep shown (op.Value (value_op.PrintInt k)) = IsFor keep k
+IsReady keep shown (op.Value (value_op.PrintBool k)) = IsFor keep k
+IsReady keep shown (op.Entry (entry_op.SetEntry vector index k)) = IsFor keep index × IsFor keep k
+IsReady keep shown (op.Entry (entry_op.ReduceEntry vector index reduction k)) = IsFor keep index × IsFor keep k
+IsReady keep shown (op.Set set) = Unit {0}
+IsReady keep shown (op.Apply apply) = Unit {0}
+IsReady keep shown (op.Control (control_op.Unless k to)) = IsFor keep k
+IsReady keep shown (op.Control (control_op.Enter name k)) = IsFor shown k
+IsReady keep shown (op.Control (control_op.UnlessBelow name to)) = Unit {0}
+IsReady keep shown (op.Control (control_op.Advance name)) = Unit {0}
+IsReady keep shown (op.Control control_op.Turn) = Unit {0}
+IsReady keep shown (op.Control (control_op.Jump to)) = Unit {0}
+IsReady keep shown (op.Control control_op.End) = Unit {0}
 
 -- they are the kernels of some program's functions
 pub record HaveTrees (f : FunctionKernels) : Type 0 where
