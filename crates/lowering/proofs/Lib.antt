@@ -1,6 +1,5 @@
 pub mod Copying
 pub mod Measures
-pub mod Modified
 pub mod Putting
 pub mod PlanLines
 pub mod Statements

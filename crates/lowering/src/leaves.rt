@@ -9,7 +9,6 @@ ghost use Rattle.plans.specs.Instruction.{Advance, Do, Enter, Jump, Turn, Unless
 ghost use Rattle.plans.specs.Plan.{chosen, depth_in_loop, loop_step, plain as plain_tree, depth_with_integer};
 ghost use Rattle.plan_text.specs.Expressions.{spaced};
 ghost use Rattle.plans.specs.Operation.{part_tree, IsOperation};
-ghost use Rattle.plans.specs.declared.operation.PlanOperation.TheVariants as op;
 ghost use Rattle.plans.specs.inside.Parts.{fused_pair_tree};
 ghost use Rattle.lowering.specs.inside.Kinds.{HasNoBlock};
 ghost use Rattle.lowering.specs.inside.Putting.{BeginsLoop, Fills, KeepsIndex, Puts};
@@ -441,7 +440,7 @@ impl Lowering<'_> {
             keep: depth,
             shown: depth,
             apply_schedule,
-            operation: PlanOperation::Apply(operation_of_pair(pair)),
+            operation: operation_of_pair(pair),
             words,
         })?;
         Ok(())
@@ -481,24 +480,26 @@ impl Lowering<'_> {
 }
 
 /// What two applies that are done together do.
-fn operation_of_pair(pair: FusedPair) -> ApplyOperation
-    ensures { (keep shown : Depth) → IsOperation keep shown (op.Apply result) (fused_pair_tree pair) }
+fn operation_of_pair(pair: FusedPair) -> PlanOperation
+    ensures { (keep shown : Depth) → IsOperation keep shown result (fused_pair_tree pair) }
 {
     match pair {
         FusedPair::Edges {
             ends,
             first,
             second,
-        } => ApplyOperation::ApplyEdges {
+        } => PlanOperation::Apply(ApplyOperation::ApplyEdges {
             ends,
             first,
             second: Some(second),
-        },
-        FusedPair::Vertices { set, first, second } => ApplyOperation::ApplyVertices {
-            set,
-            first,
-            second: Some(second),
-        },
+        }),
+        FusedPair::Vertices { set, first, second } => PlanOperation::Apply(
+            ApplyOperation::ApplyVertices {
+                set,
+                first,
+                second: Some(second),
+            },
+        ),
     }
 }
 

@@ -1,23 +1,23 @@
 //! Operations of statements without blocks, with the kernels of their expressions.
-ghost use Rattle.std.specs.Prelude.{◌≡◌, IfOk, MatchOption, Some};
-ghost use Rattle.typed_tree.specs.BlockTree.{statement_kind_tree};
+ghost use Rattle.std.specs.Prelude.{◌≡◌, IfOk, Some};
+ghost use Rattle.typed_tree.specs.BlockTree.{ApplyVertex, AssignSet, DeclareSet, ReduceEntry, SetEntry, StatementKindTree, statement_kind_tree};
 ghost use Rattle.typed_tree.specs.BoolExpressionTree.{bool_expression_tree};
 ghost use Rattle.typed_tree.specs.IntExpressionTree.{int_expression_tree};
 ghost use Rattle.kernels.specs.Kernels.{IsBoolKernel, IsIntKernel};
-ghost use Rattle.plans.specs.Fusing.{EdgeApplyTree, edge_apply_of as edge_apply_in};
+ghost use Rattle.plans.specs.Fusing.{edge_apply_of};
 ghost use Rattle.plans.specs.Instruction.{Do};
-ghost use Rattle.plans.specs.Operation.{set_value, IsFor, IsOperation};
-ghost use Rattle.lowering.specs.inside.Kinds.{HasNoBlock, IsModified, IsOnSets, IsOther};
+ghost use Rattle.plans.specs.Operation.{result_tree, IsFor, IsOperation};
+ghost use Rattle.lowering.specs.inside.Kinds.{HasNoBlock, value_of};
 
-use crate::fusing::edge_apply_of;
 use algorithm_meaning::Depth;
+use apply_options::Reduction;
 use kernels::ExpressionKernel;
 use plans::{
-    ApplyOperation, ControlOperation, EntryOperation, PlanOperation, SetExpression, SetOperation,
-    ValueOperation,
+    ApplyOperation, ControlOperation, EdgePart, EntryOperation, PartResult, PlanOperation,
+    SetExpression, SetOperation, ValueOperation,
 };
 use std::alloc::{AllocError, Global};
-use typed_tree::{BoolExpression, IntExpression, SetValue, StatementKind};
+use typed_tree::{ApplyEnds, BoolExpression, IntExpression, SetValue, StatementKind, VarRef};
 
 /// The kernel of an expression of type `int` where so much is visible.
 pub(crate) fn int_kernel(
@@ -76,53 +76,6 @@ pub(crate) fn operation_of(
                 value,
             }))
         }
-        StatementKind::PrintBool(c) => {
-            let value = bool_kernel(alloc, c, depth)?;
-            Ok(PlanOperation::Value(ValueOperation::PrintBool { value }))
-        }
-        StatementKind::SetEntry(_, _, _)
-        | StatementKind::ReduceEntry(_, _, _, _)
-        | StatementKind::AddVertex(_, _)
-        | StatementKind::PrintInt(_)
-        | StatementKind::DeclareSet(_, _)
-        | StatementKind::AssignSet(_, _)
-        | StatementKind::ApplyVertex(_, _)
-        | StatementKind::ApplyEdges(_, _) => other_operation(alloc, action, depth),
-        StatementKind::If(_, _)
-        | StatementKind::IfElse(_, _, _)
-        | StatementKind::While(_, _)
-        | StatementKind::For(_, _, _, _) => Ok(PlanOperation::Control(ControlOperation::End)),
-    }
-}
-
-/// The operation of a statement on vectors, sets or edges, or of `print`.
-fn other_operation(
-    alloc: Global,
-    action: &StatementKind,
-    depth: Depth,
-) -> Result<PlanOperation, AllocError>
-    ensures { IfOk result (λ o. IsOther (statement_kind_tree action.now) → IsOperation depth depth o (Do (statement_kind_tree action.now))) }
-{
-    match action {
-        StatementKind::SetEntry(vector, index, e) => {
-            let index = int_kernel(alloc, index, depth)?;
-            let value = int_kernel(alloc, e, depth)?;
-            Ok(PlanOperation::Entry(EntryOperation::SetEntry {
-                vector: *vector,
-                index,
-                value,
-            }))
-        }
-        StatementKind::ReduceEntry(vector, index, reduction, e) => {
-            let index = int_kernel(alloc, index, depth)?;
-            let value = int_kernel(alloc, e, depth)?;
-            Ok(PlanOperation::Entry(EntryOperation::ReduceEntry {
-                vector: *vector,
-                index,
-                reduction: *reduction,
-                value,
-            }))
-        }
         StatementKind::AddVertex(slot, e) => {
             let vertex = int_kernel(alloc, e, depth)?;
             Ok(PlanOperation::Value(ValueOperation::AddVertex {
@@ -134,69 +87,141 @@ fn other_operation(
             let value = int_kernel(alloc, e, depth)?;
             Ok(PlanOperation::Value(ValueOperation::PrintInt { value }))
         }
-        StatementKind::DeclareSet(_, _)
-        | StatementKind::AssignSet(_, _)
-        | StatementKind::ApplyVertex(_, _)
-        | StatementKind::ApplyEdges(_, _) => Ok(set_operation(action)),
-        _ => Ok(PlanOperation::Control(ControlOperation::End)),
+        StatementKind::PrintBool(c) => {
+            let value = bool_kernel(alloc, c, depth)?;
+            Ok(PlanOperation::Value(ValueOperation::PrintBool { value }))
+        }
+        StatementKind::SetEntry(vector, index, e) => set_entry(alloc, *vector, index, e, depth),
+        StatementKind::ReduceEntry(vector, index, reduction, e) => {
+            reduce_entry(alloc, *vector, index, *reduction, e, depth)
+        }
+        StatementKind::DeclareSet(name, value) => Ok(declare_set(*name, *value)),
+        StatementKind::AssignSet(slot, value) => Ok(assign_set(*slot, *value)),
+        StatementKind::ApplyVertex(set, function) => Ok(apply_vertices(*set, *function)),
+        StatementKind::ApplyEdges(ends, function) => {
+            Ok(apply_edges(*ends, *function, PartResult::Dropped))
+        }
+        StatementKind::If(_, _)
+        | StatementKind::IfElse(_, _, _)
+        | StatementKind::While(_, _)
+        | StatementKind::For(_, _, _, _) => Ok(PlanOperation::Control(ControlOperation::End)),
     }
 }
 
-/// The operation of a statement on a vertex set, or of an apply.
-fn set_operation(action: &StatementKind) -> PlanOperation
-    ensures { (keep shown : Depth) → IsOnSets (statement_kind_tree action.now) → IsOperation keep shown result (Do (statement_kind_tree action.now)) }
+/// The entry of a vector at an index gets a value.
+fn set_entry(
+    alloc: Global,
+    vector: usize,
+    index: &IntExpression,
+    e: &IntExpression,
+    depth: Depth,
+) -> Result<PlanOperation, AllocError>
+    ensures { IfOk result (λ o. IsOperation depth depth o (Do (SetEntry vector (int_expression_tree index.now) (int_expression_tree e.now)))) }
 {
-    match action {
-        StatementKind::ApplyVertex(set, function) => PlanOperation::Apply(
-            ApplyOperation::ApplyVertices {
-                set: *set,
-                first: *function,
-                second: None,
-            },
-        ),
-        StatementKind::DeclareSet(name, value) => match members_of(*value) {
-            Some(members) => PlanOperation::Set(SetOperation::DeclareSet {
-                name: *name,
-                members,
-            }),
-            None => edge_operation(action),
-        },
-        StatementKind::AssignSet(slot, value) => match members_of(*value) {
-            Some(members) => PlanOperation::Set(SetOperation::AssignSet {
-                slot: *slot,
-                members,
-            }),
-            None => edge_operation(action),
-        },
-        StatementKind::ApplyEdges(_, _) => edge_operation(action),
-        _ => PlanOperation::Control(ControlOperation::End),
-    }
+    let index = int_kernel(alloc, index, depth)?;
+    let value = int_kernel(alloc, e, depth)?;
+    Ok(PlanOperation::Entry(EntryOperation::SetEntry {
+        vector,
+        index,
+        value,
+    }))
 }
 
-/// The edge apply that a statement is.
-fn edge_operation(action: &StatementKind) -> PlanOperation
-    ensures { (keep shown : Depth) (x : EdgeApplyTree) → edge_apply_in (statement_kind_tree action.now) ≡ Some x
-        → IsOperation keep shown result (Do (statement_kind_tree action.now)) }
+/// The entry of a vector at an index is reduced with a value.
+fn reduce_entry(
+    alloc: Global,
+    vector: usize,
+    index: &IntExpression,
+    reduction: Reduction,
+    e: &IntExpression,
+    depth: Depth,
+) -> Result<PlanOperation, AllocError>
+    ensures { IfOk result (λ o. IsOperation depth depth o (Do (ReduceEntry vector (int_expression_tree index.now) reduction (int_expression_tree e.now)))) }
 {
-    match edge_apply_of(action) {
-        Some(apply) => PlanOperation::Apply(ApplyOperation::ApplyEdges {
-            ends: apply.ends,
-            first: apply.part,
-            second: None,
+    let index = int_kernel(alloc, index, depth)?;
+    let value = int_kernel(alloc, e, depth)?;
+    Ok(PlanOperation::Entry(EntryOperation::ReduceEntry {
+        vector,
+        index,
+        reduction,
+        value,
+    }))
+}
+
+/// A new set with its first value.
+fn declare_set(name: usize, value: SetValue) -> PlanOperation
+    ensures { (keep shown : Depth) → IsOperation keep shown result (Do (DeclareSet name value)) }
+{
+    match members_of(value) {
+        NewMembers::Given(members) => PlanOperation::Set(SetOperation::DeclareSet {
+            name,
+            members,
         }),
-        None => PlanOperation::Control(ControlOperation::End),
+        NewMembers::Modified(ends, function, vector) => {
+            apply_edges(ends, function, PartResult::Declared { name, vector })
+        }
     }
 }
 
-/// What a set gets that gets nothing of an apply.
-fn members_of(value: SetValue) -> Option<SetExpression>
-    ensures { MatchOption result (IsModified value) (λ m. value ≡ set_value m) }
+/// A set gets a value.
+fn assign_set(slot: VarRef, value: SetValue) -> PlanOperation
+    ensures { (keep shown : Depth) → IsOperation keep shown result (Do (AssignSet slot value)) }
+{
+    match members_of(value) {
+        NewMembers::Given(members) => PlanOperation::Set(SetOperation::AssignSet { slot, members }),
+        NewMembers::Modified(ends, function, vector) => {
+            apply_edges(ends, function, PartResult::Assigned { set: slot, vector })
+        }
+    }
+}
+
+/// A vertex function at each member of a set.
+fn apply_vertices(set: VarRef, function: usize) -> PlanOperation
+    ensures { (keep shown : Depth) → IsOperation keep shown result (Do (ApplyVertex set function)) }
+{
+    PlanOperation::Apply(ApplyOperation::ApplyVertices {
+        set,
+        first: function,
+        second: None,
+    })
+}
+
+/// An edge function on the edges between two ends, and what is done with the vertices at which it changes a vector.
+fn apply_edges(ends: ApplyEnds, function: usize, given: PartResult) -> PlanOperation
+    ensures { (keep shown : Depth) (action : StatementKindTree)
+        → edge_apply_of action ≡ Some (record { ends = ends; part = record { function = function; result = result_tree given } })
+        → IsOperation keep shown result (Do action) }
+{
+    PlanOperation::Apply(ApplyOperation::ApplyEdges {
+        ends,
+        first: EdgePart {
+            function,
+            result: given,
+        },
+        second: None,
+    })
+}
+
+/// What a set gets.
+#[derive(Clone, Copy)]
+enum NewMembers {
+    /// The members of an expression.
+    Given(SetExpression),
+    /// The vertices at which the edge function changes the vector.
+    Modified(ApplyEnds, usize, usize),
+}
+
+/// Which members a value has.
+fn members_of(value: SetValue) -> NewMembers
+    ensures { value ≡ value_of result }
 {
     match value {
-        SetValue::Empty => Some(SetExpression::Nothing),
-        SetValue::All => Some(SetExpression::All),
-        SetValue::Copy(slot) => Some(SetExpression::Copy(slot)),
-        SetValue::Filter(slot, function) => Some(SetExpression::Filter(slot, function)),
-        SetValue::Modified(_, _, _) => None,
+        SetValue::Empty => NewMembers::Given(SetExpression::Nothing),
+        SetValue::All => NewMembers::Given(SetExpression::All),
+        SetValue::Copy(slot) => NewMembers::Given(SetExpression::Copy(slot)),
+        SetValue::Filter(slot, function) => {
+            NewMembers::Given(SetExpression::Filter(slot, function))
+        }
+        SetValue::Modified(ends, function, vector) => NewMembers::Modified(ends, function, vector),
     }
 }
