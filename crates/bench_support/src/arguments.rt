@@ -3,15 +3,15 @@
 use std::process::ExitCode;
 use std::{env, io};
 
-/// The first two words after the program's name: an option and what it names, empty where they are lacking.
+// The first two words after the program's name: an option and what it names, empty where they are lacking.
 #[derive(Drop)]
-pub struct Arguments {
-    pub option: String,
-    pub subject: String,
+struct Arguments {
+    option: String,
+    subject: String,
 }
 
-/// The words of this program.
-pub fn words_of(rt: &HostRuntime) -> io::Result<Arguments> {
+// The words of this program.
+fn words_of(rt: &HostRuntime) -> io::Result<Arguments> {
     let mut words = env::args(rt)?;
     drop(words.next());
     let (option, subject) = (words.next(), words.next());
@@ -22,19 +22,26 @@ pub fn words_of(rt: &HostRuntime) -> io::Result<Arguments> {
     })
 }
 
-/// That what the words ask for was printed.
-pub fn is_printed(printed: io::Result<()>) -> io::Result<bool> {
-    match printed {
-        Ok(()) => Ok(true),
-        Err(error) => Err(error),
-    }
-}
-
-/// The status of a program that printed what its words ask for, or else prints its usage.
-pub fn status_of(rt: &HostRuntime, printed: bool, usage: &str) -> io::Result<ExitCode> {
-    if printed {
+/// Does what the words of this program ask for, and gives its status. `print` is called with the option and the subject, and returns
+/// whether they ask for something. If they do not, the usage is printed, and the status is 2.
+pub fn run_words<P: FnOnce(&str, &str) -> io::Result<bool>>(
+    rt: &HostRuntime,
+    usage: &str,
+    print: P,
+) -> io::Result<ExitCode>
+    requires { P.IsAlwaysCallable print }
+{
+    let words = words_of(rt)?;
+    let printed = print(words.option.as_str(), words.subject.as_str());
+    drop(words);
+    if printed? {
         return Ok(ExitCode::SUCCESS);
     }
     eprintln!(rt; "usage: {usage}")?;
     Ok(ExitCode::from(2))
+}
+
+/// That what the words ask for was printed.
+pub fn is_printed(printed: io::Result<()>) -> io::Result<bool> {
+    printed.map(|()| true)
 }

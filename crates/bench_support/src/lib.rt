@@ -11,7 +11,7 @@ mod table;
 mod tails;
 mod timing;
 
-pub use arguments::{Arguments, is_printed, status_of, words_of};
+pub use arguments::{is_printed, run_words};
 pub use graphs::{
     random_batch, random_graph, random_weight, random_weighted_batch, rmat_edge, rmat_graph, told,
 };

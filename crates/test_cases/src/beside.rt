@@ -7,7 +7,7 @@ use flat_snapshot::Flat;
 use std::alloc::{AllocError, Global};
 use std::io;
 use std::io::ErrorKind;
-use test_oracle::{TestedProgram, shows_the_same};
+use test_oracle::{TestedProgram, check_plan};
 use tree_batch::{Batch, Entry, Graph};
 
 /// The edges of a graph with their weights, ascending, and its number of vertices.
@@ -68,9 +68,9 @@ fn add_on_graph(
 ) -> io::Result<()> {
     let graph = graph_of(alloc, vertices, edges)?;
     for turns in BOUNDS {
-        if !shows_the_same(alloc, program, &graph, edges, *turns)? {
+        if let Err(fact) = check_plan(alloc, program, &graph, edges, *turns)? {
             let line = format!(in alloc;
-                "{path}: not what the slow run shows on {vertices} vertices with {turns} turns\n"
+                "{path}: {fact}: not what the slow run shows on {vertices} vertices with {turns} turns\n"
             )?;
             told.push_str(line.as_str())?;
         }

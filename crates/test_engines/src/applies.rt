@@ -8,6 +8,7 @@ use runner::run;
 use std::alloc::Global;
 use std::test::Fail;
 use std::thread::Threads;
+use test_helpers::{Checked, check};
 use tree_batch::{Batch, Entry, Graph};
 
 // Each destination takes the greatest of its sources, which are a set that is made between these two.
@@ -58,6 +59,9 @@ const SHARES: [&str; 4] = [SERIAL, STATIC, DYNAMIC, BY_EDGES];
 // A program's text in three parts, and its schedule's in two.
 type Text = [&'static str; 5];
 
+// A number of pieces, or the name of what is not as it should be.
+type Counted = Result<u64, &'static str>;
+
 /// A graph of n vertices with these edges.
 pub(crate) fn graph_of(alloc: Global, vertices: u32, edges: &[(u32, u32)]) -> Result<Flat, Fail> {
     let mut batch = Batch::new(alloc);
@@ -91,54 +95,57 @@ fn shown(
     Ok(run(rt, rt.alloc(), &plan, graph, workers, 100, roll)?)
 }
 
-// For how many pieces of an apply the gate is called by n workers, or none if it is not called once for each.
+// For how many pieces of an apply the gate is called by n workers, if it is called once for each.
 fn told_pieces(
     rt: &(impl Threads + AllocGlobal + Sync),
     graph: &Flat,
     text: Text,
     workers: usize,
     share: PieceAssignment,
-) -> Result<Option<u64>, Fail> {
+) -> Result<Counted, Fail> {
     let roll = Roll::new(rt.alloc(), false)?;
     drop(shown(rt, graph, text, workers, &roll)?);
     let pieces = roll.pieces();
-    let once = roll.has_each_once(pieces, workers as u64, share);
-    Ok(once.then_some(pieces))
+    let once = roll.check_each_once(pieces, workers as u64, share);
+    Ok(once.map(|()| pieces))
 }
 
-// Whether so many pieces are right for an apply from all vertices of a large graph: one where the share is serial, one each where
-// it is static, and else one each or more.
-fn is_enough(told: Option<u64>, share: usize, workers: u64) -> bool {
-    match (share, told) {
-        (0, Some(pieces)) => pieces == 1,
-        (1, Some(pieces)) => pieces == workers,
-        (_, Some(pieces)) => pieces >= workers,
-        (_, None) => false,
+// Whether so many pieces are right for an apply from all vertices of a large graph: one if the share is serial, one each if it is
+// static, and else one each or more.
+fn is_enough(pieces: u64, share: usize, workers: u64) -> bool {
+    match share {
+        0 => pieces == 1,
+        1 => pieces == workers,
+        _ => pieces >= workers,
     }
 }
 
-// Whether the gate is called once for each piece of an apply from all vertices, and never in a push from no vertex.
-fn are_told_once(
+// Checks that the gate is called once for each piece of an apply from all vertices, and never in a push from no vertex.
+fn check_calls(
     rt: &(impl Threads + AllocGlobal + Sync),
     graph: &Flat,
     (direction, share): (usize, usize),
     workers: usize,
-) -> Result<bool, Fail> {
+) -> Result<Checked, Fail> {
     let assignment = match share {
         1 => PieceAssignment::Fixed,
         _ => PieceAssignment::Claimed,
     };
     let schedule = [DIRECTIONS[direction % 4], SHARES[share % 4]];
     let all = [HEAD, ALL, TAIL, schedule[0], schedule[1]];
-    if !is_enough(
-        told_pieces(rt, graph, all, workers, assignment)?,
-        share,
-        workers as u64,
-    ) {
-        return Ok(false);
+    let of_all = match told_pieces(rt, graph, all, workers, assignment)? {
+        Ok(pieces) => check(
+            is_enough(pieces, share, workers as u64),
+            "how many pieces there are",
+        ),
+        Err(wrong) => Err(wrong),
+    };
+    if of_all.is_err() || direction > 1 {
+        return Ok(of_all);
     }
     let none = [HEAD, NONE, TAIL, schedule[0], schedule[1]];
-    Ok(direction > 1 || told_pieces(rt, graph, none, workers, assignment)? == Some(0))
+    let of_none = told_pieces(rt, graph, none, workers, assignment)?;
+    Ok(check(of_none == Ok(0), "a push from no vertex"))
 }
 
 #[test]
@@ -147,8 +154,8 @@ fn workers_are_told_of_each_piece_of_an_apply_once(rt: HostRuntime) -> Result<()
     for workers in [1, 2, 3, 7, 64] {
         for schedule in 0..16usize {
             let choices = (schedule / 4, schedule % 4);
-            let told = are_told_once(&rt, &graph, choices, workers)?;
-            assert!(rt; told, "schedule {schedule} by {workers}");
+            let told = check_calls(&rt, &graph, choices, workers)?;
+            assert_eq!(rt; told, Ok(()), "schedule {schedule} by {workers}");
         }
     }
     Ok(())
@@ -218,20 +225,18 @@ const CUTS: [CutRow; 13] = [
     (5, INTO, VERTEX_0, [DENSE_PULL, BY_EDGES], 2, 4),
 ];
 
-// Whether a row is in as many pieces as it says.
-fn is_cut_so(rt: &(impl Threads + AllocGlobal + Sync), row: &CutRow) -> Result<bool, Fail> {
-    let (vertices, edges, sources, [direction, share], workers, pieces) = *row;
+// In how many pieces the apply of a row is done.
+fn cut_pieces(rt: &(impl Threads + AllocGlobal + Sync), row: &CutRow) -> Result<Counted, Fail> {
+    let (vertices, edges, sources, [direction, share], workers, _) = *row;
     let graph = graph_of(rt.alloc(), vertices, edges)?;
     let text = [HEAD, sources, TAIL, direction, share];
-    let told = told_pieces(rt, &graph, text, workers, PieceAssignment::Claimed)?;
-    Ok(told == Some(pieces))
+    told_pieces(rt, &graph, text, workers, PieceAssignment::Claimed)
 }
 
 #[test]
 fn applies_are_cut_as_their_schedules_say(rt: HostRuntime) -> Result<(), Fail> {
     for (index, row) in CUTS.iter().enumerate() {
-        let is_cut = is_cut_so(&rt, row)?;
-        assert!(rt; is_cut, "row {index}");
+        assert_eq!(rt; cut_pieces(&rt, row)?, Ok(row.5), "row {index}");
     }
     Ok(())
 }
@@ -239,32 +244,34 @@ fn applies_are_cut_as_their_schedules_say(rt: HostRuntime) -> Result<(), Fail> {
 // What a run ends with: its turns, the entries of its vector, and how many members its set has.
 type Wanted<'a> = (u64, &'a [i64], usize);
 
-// Whether a run finished with this.
-fn has_finished_with(outcome: &Outcome, (turns, entries, members): Wanted<'_>) -> bool {
+// Checks that a run finished with this.
+fn check_outcome(outcome: &Outcome, (turns, entries, members): Wanted<'_>) -> Checked {
     let (vectors, sets) = (outcome.vectors.as_slice(), outcome.sets.as_slice());
     let (Some(vector), Some(set)) = (vectors.first(), sets.first()) else {
-        return false;
+        return Err("a vector and a set");
     };
-    outcome.end == End::Finished
-        && outcome.turns == turns
-        && vector.entries.as_slice() == entries
-        && set.members.as_slice().len() == members
+    check(outcome.end == End::Finished, "the end")?;
+    check(outcome.turns == turns, "the turns")?;
+    check(vector.entries.as_slice() == entries, "the entries")?;
+    check(
+        set.members.as_slice().len() == members,
+        "how many members there are",
+    )
 }
 
-// In how many applies a piece was held in a run by n workers, or none if one was held too long or the run did not finish with
-// what is wanted.
+// In how many applies a piece was held in a run by n workers, if none was held too long and the run finished with what is wanted.
 fn held_pieces(
     rt: &(impl Threads + AllocGlobal + Sync),
     graph: &Flat,
     text: Text,
     workers: usize,
     wanted: Wanted<'_>,
-) -> Result<Option<u64>, Fail> {
+) -> Result<Counted, Fail> {
     // One worker enters piece 2 after piece 1, so nothing is held for it.
     let roll = Roll::new(rt.alloc(), workers > 1)?;
     let outcome = shown(rt, graph, text, workers, &roll)?;
-    let found = has_finished_with(&outcome, wanted);
-    Ok((found && roll.is_right()).then_some(roll.held()))
+    let checked = check_outcome(&outcome, wanted).and(roll.check());
+    Ok(checked.map(|()| roll.held()))
 }
 
 /// A fork of six vertices that comes together, and a vertex that no edge reaches.
@@ -283,8 +290,9 @@ fn a_search_finds_the_same_while_pieces_are_held(rt: HostRuntime) -> Result<(), 
             let text = [SEARCH, "", "", direction, share];
             let held = held_pieces(&rt, &fork, text, workers, (4, PARENTS, 0))?;
             let is_cut = workers > 1 && schedule % 4 > 0;
-            assert!(rt;
-                held.map(|count| count > 0) == Some(is_cut),
+            assert_eq!(rt;
+                held.map(|count| count > 0),
+                Ok(is_cut),
                 "schedule {schedule} by {workers}"
             );
         }
@@ -303,7 +311,7 @@ fn sixty_four_workers_share_a_thousand_sources(rt: HostRuntime) -> Result<(), Fa
     for share in [STATIC, DYNAMIC, BY_EDGES] {
         let text = [HEAD, ALL, TAIL, SPARSE_PUSH, share];
         let held = held_pieces(&rt, &ring, text, 64, (0, &before, 1000))?;
-        assert!(rt; held == Some(1), "{share}");
+        assert_eq!(rt; held, Ok(1), "{share}");
     }
     Ok(())
 }

@@ -5,6 +5,7 @@ use crew::{PieceAssignment, Work, run_pieces};
 use std::alloc::{AllocError, Global};
 use std::test::Fail;
 use std::thread::Threads;
+use test_helpers::{Checked, check};
 
 // Each piece answers what the gate was called with before. A worker keeps what it was called with, by which it knows its own number, and
 // 0 where it was called with a piece as another worker.
@@ -38,13 +39,13 @@ impl Work for Witness<'_> {
     }
 }
 
-// Whether a gate is called once for each of n pieces, before it is done, by its worker.
-fn is_told(
+// Checks that a gate is called once for each of n pieces, before it is done, by its worker.
+fn check_calls(
     rt: &(impl Threads + AllocGlobal + Sync),
     pieces: usize,
     workers: usize,
     share: PieceAssignment,
-) -> Result<bool, Fail> {
+) -> Result<Checked, Fail> {
     let (alloc, pieces) = (rt.alloc(), pieces.min(MOST_PIECES));
     let roll = Roll::new(alloc, false)?;
     let (witness, mut states) = (Witness(&roll), Vec::new(alloc));
@@ -61,8 +62,15 @@ fn is_told(
     let most = workers as u64;
     let before = found.iter().all(|one| is_once(one.out, most));
     let own = states.iter().all(|state| *state >= ONCE);
-    let once = roll.pieces() == pieces as u64 && roll.has_each_once(pieces as u64, most, share);
-    Ok(before && own && once)
+    Ok(
+        check(before, "the call before a piece")
+            .and(check(own, "the worker of a piece"))
+            .and(check(
+                roll.pieces() == pieces as u64,
+                "how many pieces the gate is called with",
+            ))
+            .and(roll.check_each_once(pieces as u64, most, share)),
+    )
 }
 
 #[test]
@@ -70,8 +78,8 @@ fn a_gate_is_told_of_each_piece_once_and_before_it(rt: HostRuntime) -> Result<()
     for workers in [1, 2, 3, 7, 64] {
         for pieces in [0, 1, 2, 7, 15, 63, 65, 300] {
             for share in [PieceAssignment::Claimed, PieceAssignment::Fixed] {
-                let told = is_told(&rt, pieces, workers, share)?;
-                assert!(rt; told, "{pieces} by {workers}");
+                let told = check_calls(&rt, pieces, workers, share)?;
+                assert_eq!(rt; told, Ok(()), "{pieces} by {workers}");
             }
         }
     }

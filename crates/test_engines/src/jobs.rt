@@ -6,6 +6,7 @@ use runner::{Job, SerialApplier, Stand};
 use std::alloc::{AllocError, Global};
 use std::sync::Arc;
 use std::test::Fail;
+use test_helpers::{Checked, check};
 
 const LOOP: &str = "element Vertex end element Edge end \
     func main() var t : int = 0; for i in 0:3 if i % 2 == 0 t += i; else t = -t; end end print t; end";
@@ -69,8 +70,8 @@ fn stepped(alloc: Global, job: &mut Job, steps: u32) -> Result<Stand, AllocError
     Ok(stand)
 }
 
-// Whether an outcome shows what a row says.
-fn is_shown(outcome: &Outcome, row: &StepRow) -> bool {
+// Checks that an outcome shows what a row says.
+fn check_shown(outcome: &Outcome, row: &StepRow) -> Checked {
     let (_, _, stand, turns, text, entries, members) = *row;
     let end = match stand {
         Stand::Going => End::TurnsOver,
@@ -84,25 +85,26 @@ fn is_shown(outcome: &Outcome, row: &StepRow) -> bool {
         Some(set) => set.members.as_slice() == members,
         None => members.is_empty(),
     };
-    has_entries
-        && has_members
-        && outcome.end == end
-        && outcome.turns == turns
-        && outcome.text.as_slice() == text
+    check(has_entries, "the entries")?;
+    check(has_members, "the members")?;
+    check(outcome.end == end, "the end")?;
+    check(outcome.turns == turns, "the turns")?;
+    check(outcome.text.as_slice() == text, "the text")
 }
 
-// Whether a job stands and shows what a row says.
-fn is_as_said(alloc: Global, row: &StepRow) -> Result<bool, Fail> {
+// Checks that a job stands and shows what a row says.
+fn check_row(alloc: Global, row: &StepRow) -> Result<Checked, Fail> {
     let mut job = job_of(alloc, row.0)?;
     let stand = stepped(alloc, &mut job, row.1)?;
-    Ok(stand == row.2 && is_shown(&job.outcome(alloc)?, row))
+    let shown = check_shown(&job.outcome(alloc)?, row);
+    Ok(check(stand == row.2, "how the job stands").and(shown))
 }
 
 #[test]
 fn jobs_stand_and_show_how_far_they_have_come(rt: HostRuntime) -> Result<(), Fail> {
     for row in &ROWS {
-        let is_right = is_as_said(rt.alloc(), row)?;
-        assert!(rt; is_right, "{} steps of {}", row.1, row.0);
+        let checked = check_row(rt.alloc(), row)?;
+        assert_eq!(rt; checked, Ok(()), "{} steps of {}", row.1, row.0);
     }
     Ok(())
 }

@@ -3,6 +3,7 @@
 use crew::{Gate, PieceAssignment};
 use std::alloc::{AllocError, Global};
 use std::sync::atomic::{AtomicU64, Ordering};
+use test_helpers::{Checked, check};
 
 /// The most pieces that a roll has room for.
 pub(crate) const MOST_PIECES: usize = 300;
@@ -59,27 +60,34 @@ impl Roll {
         self.held.load(Ordering::SeqCst)
     }
 
-    /// Whether nothing was wrong.
-    pub(crate) fn is_right(&self) -> bool {
-        self.wrong.load(Ordering::SeqCst) == 0
+    /// Checks that nothing was wrong.
+    pub(crate) fn check(&self) -> Checked {
+        check(
+            self.wrong.load(Ordering::SeqCst) == 0,
+            "a piece without room, or one that was held too long",
+        )
     }
 
-    /// Whether each of n pieces was entered once, by one of n workers, and by its own where pieces are fixed; and
-    /// nothing else was.
-    pub(crate) fn has_each_once(&self, pieces: u64, workers: u64, share: PieceAssignment) -> bool {
-        let mut all = self.is_right();
+    /// Checks that each of n pieces was entered once, by one of n workers, and by its own if pieces are fixed, and that nothing else
+    /// was entered.
+    pub(crate) fn check_each_once(
+        &self,
+        pieces: u64,
+        workers: u64,
+        share: PieceAssignment,
+    ) -> Checked {
+        self.check()?;
         let mut own = 0u64;
         for (index, entry) in (0..MOST_PIECES as u64).zip(&self.entered) {
             let noted = entry.load(Ordering::SeqCst);
             own = if own < workers { own + 1 } else { 1 };
-            all = all
-                && match share {
-                    _ if pieces <= index => noted == 0,
-                    PieceAssignment::Claimed => is_once(noted, workers),
-                    PieceAssignment::Fixed => noted == ONCE.wrapping_add(own),
-                };
+            match share {
+                _ if pieces <= index => check(noted == 0, "a piece after the last")?,
+                PieceAssignment::Claimed => check(is_once(noted, workers), "a claimed piece")?,
+                PieceAssignment::Fixed => check(noted == ONCE.wrapping_add(own), "a fixed piece")?,
+            }
         }
-        all
+        Ok(())
     }
 
     // Holds a piece 1 until a piece 2 was entered for each that was held, and tells whether it was.

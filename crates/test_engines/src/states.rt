@@ -21,20 +21,19 @@ const VECTORS: [Vector; 2] = [
     },
 ];
 
-// Whether a state of two vectors opens with this group.
-fn opens_with(alloc: Global, group: &[usize]) -> Result<bool, Fail> {
+// The vertices, the vectors and the turns of a state of two vectors that opens with this group.
+fn opened(alloc: Global, group: &[usize]) -> Result<(u32, usize, u64), Fail> {
     let graph = Flat::of(alloc, &Graph::new(3, 64)?)?;
     let mut groups = Vec::new(alloc);
     groups.push(Sequence::new(Vec::from_slice(alloc, group)?))?;
     let state = State::open(alloc, &VECTORS, &[], &groups, &graph, 5)?;
-    Ok(state.vertices() == 3 && state.vector_count() == 2 && state.turns() == 5)
+    Ok((state.vertices(), state.vector_count(), state.turns()))
 }
 
 #[test]
 fn a_state_opens_with_any_groups(rt: HostRuntime) -> Result<(), Fail> {
     for group in &GROUPS {
-        let is_open = opens_with(rt.alloc(), group)?;
-        assert!(rt; is_open, "{group:?}");
+        assert_eq!(rt; opened(rt.alloc(), group)?, (3, 2, 5), "{group:?}");
     }
     Ok(())
 }

@@ -1,16 +1,21 @@
-//! The chunk size with which the neighbours of vertices stand.
+//! The chunk size of the neighbours of vertices.
 
+use crate::checked::{Checked, check};
 use tree_batch::{Graph, NeighbourSet};
 
-/// Whether the neighbours of the first so many vertices are in chunks of this size, in both directions.
-pub fn stand_in_chunks(graph: &Graph, hubs: u32, chunk_size: u32) -> bool {
+/// Checks that the neighbours of the first so many vertices are in chunks of this size, in both directions.
+pub fn stand_in_chunks(graph: &Graph, hubs: u32, chunk_size: u32) -> Checked {
     for hub in 0..hubs {
-        let (out, into) = (chunk_size_of(graph.out(hub)), chunk_size_of(graph.in_(hub)));
-        if out != Some(chunk_size) || into != Some(chunk_size) {
-            return false;
-        }
+        check(
+            chunk_size_of(graph.out(hub)) == Some(chunk_size),
+            "the chunk size of destinations",
+        )?;
+        check(
+            chunk_size_of(graph.in_(hub)) == Some(chunk_size),
+            "the chunk size of sources",
+        )?;
     }
-    true
+    Ok(())
 }
 
 // The chunk size of neighbours that are a set in chunks.

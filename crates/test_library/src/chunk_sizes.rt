@@ -2,7 +2,7 @@
 //! many neighbours that they are sets in chunks, in both directions, and so tells the chunk size of the graph that it was made of.
 use std::alloc::Global;
 use std::thread::Threads;
-use test_helpers::stand_in_chunks;
+use test_helpers::{Checked, stand_in_chunks};
 use tree_batch::{Batch, Entry, Graph, GraphError, Quiet};
 use version_list::{VersionError, Versions, Which};
 
@@ -49,17 +49,18 @@ fn changed<R: Threads + AllocGlobal + Sync>(rt: &R, chunk_size: u32) -> Result<G
     Ok(graph)
 }
 
-fn graphs_keep<R: Threads + AllocGlobal + Sync>(rt: &R, chunk_size: u32) -> bool {
-    match changed(rt, chunk_size) {
-        Ok(graph) => stand_in_chunks(&graph, 4, chunk_size),
-        Err(_) => false,
-    }
+fn graphs_keep<R: Threads + AllocGlobal + Sync>(
+    rt: &R,
+    chunk_size: u32,
+) -> Result<Checked, GraphError> {
+    let graph = changed(rt, chunk_size)?;
+    Ok(stand_in_chunks(&graph, 4, chunk_size))
 }
 
 #[test]
 fn graphs_keep_their_chunk_size(rt: HostRuntime) {
     for chunk_size in CHUNK_SIZES {
-        assert!(rt; graphs_keep(&rt, chunk_size), "{chunk_size}");
+        assert_eq!(rt; graphs_keep(&rt, chunk_size), Ok(Ok(())), "{chunk_size}");
     }
 }
 
@@ -89,22 +90,22 @@ fn hold<R: Threads + AllocGlobal + Sync>(
     Ok(versions.acquire(Which::Newest)?.1)
 }
 
-// Whether the newest version, and one that is held beside it, keep the chunk size.
+// Checks that the newest version, and one that is held beside it, keep the chunk size.
 fn versions_keep<R: Threads + AllocGlobal + Sync>(
     rt: &R,
     chunk_size: u32,
-) -> Result<bool, VersionError> {
+) -> Result<Checked, VersionError> {
     let mut versions = Versions::with_room(rt.alloc(), FIRST, chunk_size, 10)?;
     let held = hold(rt, &mut versions)?;
     commit(rt, &mut versions, 4, 0)?;
     let beside = applied(rt, &held, 4, 0)?;
-    let kept = stand_in_chunks(&beside, 5, chunk_size);
-    Ok(kept && stand_in_chunks(versions.newest().1, 5, chunk_size))
+    let held = stand_in_chunks(&beside, 5, chunk_size);
+    Ok(held.and(stand_in_chunks(versions.newest().1, 5, chunk_size)))
 }
 
 #[test]
 fn versions_keep_their_chunk_size(rt: HostRuntime) {
     for chunk_size in CHUNK_SIZES {
-        assert!(rt; versions_keep(&rt, chunk_size) == Ok(true), "{chunk_size}");
+        assert_eq!(rt; versions_keep(&rt, chunk_size), Ok(Ok(())), "{chunk_size}");
     }
 }

@@ -2,6 +2,7 @@
 use c_tree::{CTree, CTreeError};
 use set_ops::{SetError, difference, union};
 use std::alloc::Global;
+use test_helpers::{Checked, check};
 
 // A head with its weight and its tail's bytes.
 type Chunk = (u32, i64, &'static [u8]);
@@ -35,17 +36,21 @@ const CUTS: [(u32, &[(u32, i64)], Cut); 6] = [
     (4, &[(2, 9), (3, 1)], (b"", &[(2, 9, b"\x00")])),
 ];
 
-fn is_made_so(alloc: Global, chunk_size: u32, list: &[(u32, i64)], cut: Cut) -> bool {
-    match CTree::from_sorted(alloc, chunk_size, list) {
-        Ok(set) => is_cut_so(&set, list.len(), cut),
-        Err(_) => false,
-    }
+fn check_list(
+    alloc: Global,
+    chunk_size: u32,
+    list: &[(u32, i64)],
+    cut: Cut,
+) -> Result<Checked, CTreeError> {
+    let set = CTree::from_sorted(alloc, chunk_size, list)?;
+    Ok(check_cut(&set, list.len(), cut))
 }
 
 #[test]
 fn cuts_lists(rt: HostRuntime) {
     for (chunk_size, list, cut) in CUTS {
-        assert!(rt; is_made_so(rt.alloc(), chunk_size, list, cut), "{list:?}");
+        let checked = check_list(rt.alloc(), chunk_size, list, cut);
+        assert_eq!(rt; checked, Ok(Ok(())), "{list:?}");
     }
 }
 
@@ -62,32 +67,27 @@ const PAIRS: [(&[(u32, i64)], &[(u32, i64)], Cut); 2] = [
 ];
 
 fn set_of(alloc: Global, list: &[(u32, i64)]) -> Result<CTree, SetError> {
-    match CTree::from_sorted(alloc, 4, list) {
-        Ok(set) => Ok(set),
-        Err(_) => Err(SetError::NoMemory),
-    }
+    CTree::from_sorted(alloc, 4, list).map_err(|_| SetError::NoMemory)
 }
 
-// Whether the union of two sets is cut so, and its difference with the second.
-fn are_cut_so(
+// Checks how the union of two sets is cut, and its difference with the second.
+fn check_cuts(
     alloc: Global,
     first: &[(u32, i64)],
     second: &[(u32, i64)],
     cut: Cut,
-) -> Result<bool, SetError> {
+) -> Result<Checked, SetError> {
     let (one, other) = (set_of(alloc, first)?, set_of(alloc, second)?);
     let all = union(alloc, &one, &other)?;
     let rest = difference(alloc, &all, &other)?;
-    Ok(is_cut_so(&all, 3, UNION) && is_cut_so(&rest, first.len(), cut))
+    Ok(check_cut(&all, 3, UNION).and(check_cut(&rest, first.len(), cut)))
 }
 
 #[test]
 fn cuts_unions_and_differences(rt: HostRuntime) {
     for (first, second, cut) in PAIRS {
-        assert!(rt;
-            are_cut_so(rt.alloc(), first, second, cut) == Ok(true),
-            "{first:?}"
-        );
+        let checked = check_cuts(rt.alloc(), first, second, cut);
+        assert_eq!(rt; checked, Ok(Ok(())), "{first:?}");
     }
 }
 
@@ -105,27 +105,28 @@ fn lists_and_sizes_that_do_not_fit_are_refused(rt: HostRuntime) {
     let number_of = |error: CTreeError| error.number();
     for list in [&[(2, 1), (2, 1)], &[(2, 1), (1, 1)]] {
         let refused = CTree::from_sorted(rt.alloc(), 4, list).err();
-        assert!(rt; refused.map(number_of) == Some(101), "{list:?}");
+        assert_eq!(rt; refused.map(number_of), Some(101), "{list:?}");
     }
     for size in [0, 3, 512] {
-        assert!(rt;
-            CTree::new(size).err().map(number_of) == Some(103),
-            "{size}"
-        );
+        let refused = CTree::new(size).err();
+        assert_eq!(rt; refused.map(number_of), Some(103), "{size}");
     }
-    assert!(rt; refusals_of_sizes(rt.alloc()) == Ok([Some(104); 2]));
+    let refused = refusals_of_sizes(rt.alloc());
+    assert_eq!(rt; refused, Ok([Some(104); 2]), "chunks of 4 and of 64");
 }
 
-// Whether the set has so many members and this cut.
-fn is_cut_so(set: &CTree, count: usize, (prefix, chunks): Cut) -> bool {
+// Checks that the set has so many members and this cut.
+fn check_cut(set: &CTree, count: usize, (prefix, chunks): Cut) -> Checked {
+    check(set.len() == count, "how many members there are")?;
+    check(set.prefix().bytes() == prefix, "the bytes of the prefix")?;
     let mut heads = set.heads();
-    let mut same = set.len() == count && set.prefix().bytes() == prefix;
     for (head, weight, bytes) in chunks {
-        same = same
-            && match heads.next() {
-                Some((key, at, tail)) => key == *head && at == *weight && tail.bytes() == *bytes,
-                None => false,
-            };
+        let Some((key, own, tail)) = heads.next() else {
+            return Err("how many heads there are");
+        };
+        check(key == *head, "a head")?;
+        check(own == *weight, "the weight of a head")?;
+        check(tail.bytes() == *bytes, "the bytes of a tail")?;
     }
-    same && heads.next().is_none()
+    check(heads.next().is_none(), "the end of the heads")
 }

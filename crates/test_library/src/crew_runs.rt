@@ -5,6 +5,7 @@ use crew::{CrewError, Gate, PieceAssignment, Work, run_pieces};
 use std::alloc::{AllocError, Global};
 use std::sync::atomic::{AtomicU64, Ordering};
 use std::thread::Threads;
+use test_helpers::{Checked, check};
 
 // The square of each number up to 1000. A worker counts its pieces.
 struct Squares;
@@ -86,11 +87,11 @@ fn run<R: Threads + AllocGlobal + Sync>(
     Ok((found.len(), watch.digits.load(Ordering::SeqCst)))
 }
 
-// Whether two runs find all pieces, and the workers keep how many pieces they did in both.
+// Checks that two runs find all pieces, and that the workers keep how many pieces they did in both.
 fn run_twice<R: Threads + AllocGlobal + Sync>(
     rt: &R,
     asked: (usize, usize, PieceAssignment),
-) -> Result<bool, CrewError> {
+) -> Result<Checked, CrewError> {
     let (mut states, mut done) = (Vec::new(rt.alloc()), 0usize);
     let first = run(rt, asked, 0, &mut states)?.0;
     let second = run(rt, asked, 0, &mut states)?.0;
@@ -98,8 +99,18 @@ fn run_twice<R: Threads + AllocGlobal + Sync>(
         done = done.wrapping_add(*count);
     }
     let (pieces, workers, _) = asked;
-    let kept = done == pieces.wrapping_mul(2) && states.len() == workers.min(pieces);
-    Ok(kept && first == pieces && second == pieces)
+    Ok(
+        check(first == pieces, "the pieces of the first run")
+            .and(check(second == pieces, "the pieces of the second run"))
+            .and(check(
+                states.len() == workers.min(pieces),
+                "how many workers there are",
+            ))
+            .and(check(
+                done == pieces.wrapping_mul(2),
+                "the pieces that the workers count",
+            )),
+    )
 }
 
 #[test]
@@ -107,7 +118,7 @@ fn pieces_are_found_and_states_kept(rt: HostRuntime) {
     for (pieces, workers) in [(0, 1), (0, 4), (1, 64), (5, 1), (5, 3), (1000, 64)] {
         for share in [PieceAssignment::Claimed, PieceAssignment::Fixed] {
             let kept = run_twice(&rt, (pieces, workers, share));
-            assert!(rt; kept == Ok(true), "{pieces} by {workers}");
+            assert_eq!(rt; kept, Ok(Ok(())), "{pieces} by {workers}");
         }
     }
 }
@@ -122,22 +133,23 @@ const RUNS: [((usize, usize, PieceAssignment), u64, [u64; 2]); 5] = [
     ((7, 9, PieceAssignment::Fixed), 0, [1_234_567; 2]),
 ];
 
-// Whether a run notes one of these digits.
-fn is_noted<R: Threads + AllocGlobal + Sync>(
+// The digits that a run notes.
+fn noted<R: Threads + AllocGlobal + Sync>(
     rt: &R,
     asked: (usize, usize, PieceAssignment),
     others: u64,
-    [one, other]: [u64; 2],
-) -> bool {
-    match run(rt, asked, others, &mut Vec::new(rt.alloc())) {
-        Ok((_, digits)) => digits == one || digits == other,
-        Err(_) => false,
-    }
+) -> Result<u64, CrewError> {
+    let (_, digits) = run(rt, asked, others, &mut Vec::new(rt.alloc()))?;
+    Ok(digits)
 }
 
 #[test]
 fn pieces_fall_to_workers(rt: HostRuntime) {
-    for (asked, others, digits) in RUNS {
-        assert!(rt; is_noted(&rt, asked, others, digits), "{digits:?}");
+    for (asked, others, [one, other]) in RUNS {
+        let digits = noted(&rt, asked, others);
+        assert!(rt;
+            digits == Ok(one) || digits == Ok(other),
+            "{digits:?}, and neither {one} nor {other}"
+        );
     }
 }

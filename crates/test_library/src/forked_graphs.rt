@@ -2,6 +2,7 @@
 use crate::forked_sets::Halves;
 use std::alloc::Global;
 use std::thread::Threads;
+use test_helpers::Checked;
 use tree_batch::{Batch, Entry, Graph, GraphError, Quiet};
 
 // A loop in each of n blocks of 64 vertices.
@@ -27,34 +28,34 @@ const TIMES: [(bool, u32, u32, u64); 7] = [
     (false, 127, 7, 0x40_20_10_08_04_02),
 ];
 
-// Whether a batch enters each half so often at n forks.
-fn is_told<R: Threads + AllocGlobal + Sync>(
+// Checks that a batch enters each half so often at n forks.
+fn check_entered<R: Threads + AllocGlobal + Sync>(
     rt: &R,
     graph: &Graph,
     batch: &Batch,
     forks: u32,
     (waits, times): (bool, u64),
-) -> bool {
+) -> Result<Checked, GraphError> {
     let halves = Halves::new(waits);
-    let after = graph.apply_forked(rt, rt.alloc(), batch, forks, &halves);
-    after.is_ok() && halves.are(times)
+    graph.apply_forked(rt, rt.alloc(), batch, forks, &halves)?;
+    Ok(halves.check(times))
 }
 
-fn loops_are_told<R: Threads + AllocGlobal + Sync>(
+fn check_loops<R: Threads + AllocGlobal + Sync>(
     rt: &R,
     blocks: u32,
     forks: u32,
     told: (bool, u64),
-) -> Result<bool, GraphError> {
+) -> Result<Checked, GraphError> {
     let (graph, batch) = (Graph::new(8_128, 64)?, loops_in(rt.alloc(), blocks)?);
-    Ok(is_told(rt, &graph, &batch, forks, told))
+    check_entered(rt, &graph, &batch, forks, told)
 }
 
 #[test]
 fn tells_of_each_half(rt: HostRuntime) {
     for (waits, blocks, forks, times) in TIMES {
-        let told = loops_are_told(&rt, blocks, forks, (waits, times));
-        assert!(rt; told == Ok(true), "at {forks} forks, waiting: {waits}");
+        let told = check_loops(&rt, blocks, forks, (waits, times));
+        assert_eq!(rt; told, Ok(Ok(())), "at {forks} forks, waiting: {waits}");
     }
 }
 
@@ -112,21 +113,21 @@ const HUB_TIMES: [(&[u32], u32, u64); 6] = [
     (&HUBS, 3, 0x0c_06_02),
 ];
 
-fn hubs_are_told<R: Threads + AllocGlobal + Sync>(
+fn check_hubs<R: Threads + AllocGlobal + Sync>(
     rt: &R,
     hubs: &[u32],
     forks: u32,
     times: u64,
-) -> Result<bool, GraphError> {
+) -> Result<Checked, GraphError> {
     let (graph, batch) = (two_hubs(rt.alloc())?, hub_batch(rt.alloc(), hubs)?);
-    Ok(is_told(rt, &graph, &batch, forks, (false, times)))
+    check_entered(rt, &graph, &batch, forks, (false, times))
 }
 
 #[test]
 fn levels_go_on_inside_a_vertex(rt: HostRuntime) {
     for (hubs, forks, times) in HUB_TIMES {
-        let told = hubs_are_told(&rt, hubs, forks, times);
-        assert!(rt; told == Ok(true), "of {hubs:?} at {forks} forks");
+        let told = check_hubs(&rt, hubs, forks, times);
+        assert_eq!(rt; told, Ok(Ok(())), "of {hubs:?} at {forks} forks");
     }
 }
 
@@ -179,16 +180,22 @@ fn after_batches<R: Threads + AllocGlobal + Sync>(rt: &R, forks: u32) -> Result<
     Ok(graph)
 }
 
-fn are_applied<R: Threads + AllocGlobal + Sync>(rt: &R, forks: u32) -> bool {
-    match after_batches(rt, forks) {
-        Ok(graph) => graph.edge_count() == 115 && graph.weight(131, 9) == Some(-3),
-        Err(_) => false,
-    }
+// How many edges there are after the batches, and the weight of the last one that they add.
+fn applied<R: Threads + AllocGlobal + Sync>(
+    rt: &R,
+    forks: u32,
+) -> Result<(usize, Option<i64>), GraphError> {
+    let graph = after_batches(rt, forks)?;
+    Ok((graph.edge_count(), graph.weight(131, 9)))
 }
 
 #[test]
 fn uneven_batches_are_applied_at_any_forks(rt: HostRuntime) {
     for forks in [0, 1, 3, 6, 7] {
-        assert!(rt; are_applied(&rt, forks), "at {forks} forks");
+        assert_eq!(rt;
+            applied(&rt, forks),
+            Ok((115, Some(-3))),
+            "at {forks} forks"
+        );
     }
 }

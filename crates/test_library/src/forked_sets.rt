@@ -4,6 +4,7 @@ use set_ops::{Fork, SetError, difference_forked, union_forked};
 use std::alloc::{AllocError, Global};
 use std::sync::atomic::{AtomicU64, Ordering};
 use std::thread::Threads;
+use test_helpers::{Checked, check};
 
 // How often a half looks whether the other is there.
 const MOST_TRIES: u32 = 100_000_000;
@@ -29,9 +30,16 @@ impl Halves {
         }
     }
 
-    /// Whether each half was entered so often at these levels.
-    pub(crate) fn are(&self, times: u64) -> bool {
-        self.below.load(Ordering::SeqCst) == times && self.above.load(Ordering::SeqCst) == times
+    /// Checks that each half was entered so often at these levels.
+    pub(crate) fn check(&self, times: u64) -> Checked {
+        check(
+            self.below.load(Ordering::SeqCst) == times,
+            "the first halves",
+        )?;
+        check(
+            self.above.load(Ordering::SeqCst) == times,
+            "the second halves",
+        )
     }
 }
 
@@ -73,24 +81,21 @@ fn every_second(alloc: Global, first: u32) -> Result<Vec<(u32, i64)>, AllocError
 // The set of every second number, in chunks of 1.
 fn set_of(alloc: Global, first: u32) -> Result<CTree, SetError> {
     let entries = every_second(alloc, first)?;
-    match CTree::from_sorted(alloc, 1, &entries) {
-        Ok(set) => Ok(set),
-        Err(_) => Err(SetError::NoMemory),
-    }
+    CTree::from_sorted(alloc, 1, &entries).map_err(|_| SetError::NoMemory)
 }
 
-// Whether the halves of a union of the even and the odd numbers, and those of a difference, are entered so often.
-fn are_entered<R: Threads + AllocGlobal + Sync>(
+// Checks that the halves of a union of the even and the odd numbers, and those of a difference, are entered so often.
+fn check_entered<R: Threads + AllocGlobal + Sync>(
     rt: &R,
     waits: bool,
     forks: u32,
     times: u64,
-) -> Result<bool, SetError> {
+) -> Result<Checked, SetError> {
     let (of_union, of_difference) = (Halves::new(waits), Halves::new(waits));
     let (even, odd) = (set_of(rt.alloc(), 0)?, set_of(rt.alloc(), 1)?);
     union_forked(rt, rt.alloc(), &even, &odd, forks, &of_union)?;
     difference_forked(rt, rt.alloc(), &even, &odd, forks, &of_difference)?;
-    Ok(of_union.are(times) && of_difference.are(times))
+    Ok(of_union.check(times).and(of_difference.check(times)))
 }
 
 // Whether the halves wait for each other, how many forks there are, and how often each half is entered at each level, the last digits
@@ -108,7 +113,7 @@ const TIMES: [(bool, u32, u64); 7] = [
 #[test]
 fn tells_of_each_half_of_each_level(rt: HostRuntime) {
     for (waits, forks, times) in TIMES {
-        let entered = are_entered(&rt, waits, forks, times);
-        assert!(rt; entered == Ok(true), "at {forks} forks, waiting: {waits}");
+        let entered = check_entered(&rt, waits, forks, times);
+        assert_eq!(rt; entered, Ok(Ok(())), "at {forks} forks, waiting: {waits}");
     }
 }

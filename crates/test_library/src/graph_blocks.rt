@@ -1,5 +1,6 @@
 //! The forms of lists of neighbours, which no reply of a script tells, and what is printed of a graph.
 use std::alloc::Global;
+use test_helpers::{Checked, check};
 use tree_batch::{Batch, Entry, Graph, GraphError};
 
 // A count of neighbours that a vertex comes to have, and whether they are then a set in chunks. Upward a list leaves its page from
@@ -50,12 +51,16 @@ fn resized(
     graph.apply(alloc, &batch)
 }
 
-// Whether a vertex has so many neighbours, in the form that is reported.
-fn has(graph: &Graph, source: u32, count: u32, is_chunked: bool) -> bool {
-    match graph.out(source) {
-        Some(set) => set.len() == count as usize && set.chunked().is_some() == is_chunked,
-        None => count == 0,
-    }
+// Checks that a vertex has so many neighbours, in the form that is reported.
+fn check_list(graph: &Graph, source: u32, count: u32, is_chunked: bool) -> Checked {
+    let Some(set) = graph.out(source) else {
+        return check(count == 0, "the list is lost");
+    };
+    check(set.len() == count as usize, "the length of the list")?;
+    check(
+        set.chunked().is_some() == is_chunked,
+        "the form of the list",
+    )
 }
 
 // What is printed of the graph when the last neighbours are gone.
@@ -68,20 +73,26 @@ fn is_printed(alloc: Global, graph: &Graph) -> bool {
     }
 }
 
-// Whether a vertex goes through the sizes in their forms, and the graph is printed so at the end.
-fn goes_through(alloc: Global, source: u32) -> Result<bool, GraphError> {
-    let (mut graph, mut had, mut same) = (Graph::new(3000, 4)?, 0, true);
-    for (count, is_chunked) in SIZES {
-        graph = resized(alloc, &graph, source, had, count)?;
-        same = same && has(&graph, source, count, is_chunked);
-        had = count;
+// Checks that a vertex goes through the sizes in their forms, and that the graph is printed so at the end. Beside the fact that does
+// not hold is the place of the size.
+fn check_sizes(alloc: Global, source: u32) -> Result<(Checked, usize), GraphError> {
+    let (mut graph, mut had) = (Graph::new(3000, 4)?, 0);
+    for (at, (count, is_chunked)) in SIZES.iter().enumerate() {
+        graph = resized(alloc, &graph, source, had, *count)?;
+        let checked = check_list(&graph, source, *count, *is_chunked);
+        if checked.is_err() {
+            return Ok((checked, at));
+        }
+        had = *count;
     }
-    Ok(same && is_printed(alloc, &graph))
+    let checked = check(is_printed(alloc, &graph), "what is printed");
+    Ok((checked, SIZES.len()))
 }
 
 #[test]
 fn lists_change_their_form_at_two_sizes(rt: HostRuntime) {
     for source in [0, 63, 64, 2999] {
-        assert!(rt; goes_through(rt.alloc(), source) == Ok(true), "at {source}");
+        let checked = check_sizes(rt.alloc(), source);
+        assert_eq!(rt; checked, Ok((Ok(()), SIZES.len())), "at {source}");
     }
 }

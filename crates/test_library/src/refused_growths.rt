@@ -10,7 +10,7 @@ use scripts::{ScriptError, script};
 use set_ops::{Quiet, SetError, union_forked};
 use std::alloc::{AllocError, Global};
 use std::thread::Threads;
-use test_helpers::{ask, tell};
+use test_helpers::{Checked, ask, check, tell};
 use tree_batch::{Batch, Entry};
 use version_list::{Reply, VersionError, Versions, Which};
 
@@ -30,8 +30,8 @@ fn has(set: &CTree, entries: &[(u32, i64)]) -> bool {
     set.iter().eq(entries.iter().copied())
 }
 
-// Makes a set of a list, again where memory is refused. Returns whether it is that of the list.
-fn makes_a_set<R: Print + AllocGlobal>(rt: &R) -> Result<bool, CTreeError> {
+// Makes a set of a list, again if memory is refused. Checks that it is that of the list.
+fn makes_a_set<R: Print + AllocGlobal>(rt: &R) -> Result<Checked, CTreeError> {
     let entries = every_third(rt.alloc(), 0, 200)?;
     let asked = ask(rt);
     let first = CTree::from_sorted(rt.alloc(), 4, &entries);
@@ -42,20 +42,22 @@ fn makes_a_set<R: Print + AllocGlobal>(rt: &R) -> Result<bool, CTreeError> {
     } else {
         first?
     };
-    Ok(asked && told && set.len() == 67 && has(&set, &entries))
+    Ok(
+        asked
+            .and(told)
+            .and(check(set.len() == 67, "how many members there are"))
+            .and(check(has(&set, &entries), "the members")),
+    )
 }
 
 #[test]
 fn a_set_of_a_list(rt: HostRuntime) {
-    assert!(rt; makes_a_set(&rt) == Ok(true));
+    assert_eq!(rt; makes_a_set(&rt), Ok(Ok(())));
 }
 
 // The set of every third number below 200, from the first on.
 fn set_of(alloc: Global, entries: &[(u32, i64)]) -> Result<CTree, SetError> {
-    match CTree::from_sorted(alloc, 4, entries) {
-        Ok(set) => Ok(set),
-        Err(_) => Err(SetError::NoMemory),
-    }
+    CTree::from_sorted(alloc, 4, entries).map_err(|_| SetError::NoMemory)
 }
 
 // Whether a set has every third number from two first ones on.
@@ -64,8 +66,8 @@ fn is_union(set: &CTree) -> bool {
     set.iter().eq(keys.map(|key| (key, i64::from(key) - 50)))
 }
 
-// Unites two sets, again where memory is refused. Returns whether they stay as they are, and the union is theirs.
-fn unites<R: Print + AllocGlobal + Threads + Sync>(rt: &R) -> Result<bool, SetError> {
+// Unites two sets, again if memory is refused. Checks that they stay as they are, and that the union is theirs.
+fn unites<R: Print + AllocGlobal + Threads + Sync>(rt: &R) -> Result<Checked, SetError> {
     let alloc = rt.alloc();
     let (low, high) = (every_third(alloc, 0, 200)?, every_third(alloc, 1, 200)?);
     let (one, other) = (set_of(alloc, &low)?, set_of(alloc, &high)?);
@@ -73,18 +75,24 @@ fn unites<R: Print + AllocGlobal + Threads + Sync>(rt: &R) -> Result<bool, SetEr
     let first = union_forked(rt, alloc, &one, &other, 2, &Quiet);
     let is_refused = matches!(&first, Err(SetError::NoMemory));
     let told = tell(rt, is_refused);
-    let stay = has(&one, &low) && has(&other, &high);
+    let (is_low, is_high) = (has(&one, &low), has(&other, &high));
     let both = if is_refused {
         union_forked(rt, alloc, &one, &other, 2, &Quiet)?
     } else {
         first?
     };
-    Ok(asked && told && stay && is_union(&both))
+    Ok(
+        asked
+            .and(told)
+            .and(check(is_low, "the first set"))
+            .and(check(is_high, "the second set"))
+            .and(check(is_union(&both), "the union")),
+    )
 }
 
 #[test]
 fn a_union(rt: HostRuntime) {
-    assert!(rt; unites(&rt) == Ok(true));
+    assert_eq!(rt; unites(&rt), Ok(Ok(())));
 }
 
 // A version: its number, its vertices and its edges.
@@ -108,16 +116,19 @@ const ENTRIES: [&[Entry]; 2] = [
 
 const REPLIES: [Reply; 3] = [Reply::Version(1), Reply::Ticket(1, 1), Reply::Version(2)];
 
-// Whether this is the newest version, and the history has the first so many replies.
-fn is_newest(versions: &Versions, (number, vertices, edges): Version, count: usize) -> bool {
+// Checks that this is the newest version, and that the history has the first so many replies.
+fn check_newest(versions: &Versions, (number, vertices, edges): Version, count: usize) -> Checked {
     let (newest, graph) = versions.newest();
-    let mut same = versions.history().len() == count;
+    check(
+        versions.history().len() == count,
+        "the length of the history",
+    )?;
     for (done, reply) in versions.history().iter().zip(&REPLIES) {
-        same = same && done.reply == *reply;
+        check(done.reply == *reply, "a reply of the history")?;
     }
-    same && newest == number
-        && graph.vertices() == vertices
-        && graph.edges().eq(edges.iter().copied())
+    check(newest == number, "the number of the newest version")?;
+    check(graph.vertices() == vertices, "the vertices")?;
+    check(graph.edges().eq(edges.iter().copied()), "the edges")
 }
 
 fn batch_of(alloc: Global, entries: &[Entry]) -> Result<Batch, AllocError> {
@@ -138,8 +149,9 @@ fn held_versions(alloc: Global) -> Result<Versions, VersionError> {
     Ok(versions)
 }
 
-// Commits the second batch, again where memory is refused, which changes nothing. Returns whether it makes the version after.
-fn commits<R: Print + AllocGlobal>(rt: &R) -> Result<bool, VersionError> {
+// Commits the second batch, again if memory is refused. Checks that a refusal changes nothing, and that the commit makes the version
+// after.
+fn commits<R: Print + AllocGlobal>(rt: &R) -> Result<Checked, VersionError> {
     let alloc = rt.alloc();
     let mut versions = held_versions(alloc)?;
     let batch = batch_of(alloc, ENTRIES[1])?;
@@ -147,19 +159,25 @@ fn commits<R: Print + AllocGlobal>(rt: &R) -> Result<bool, VersionError> {
     let first = versions.commit(alloc, batch);
     let is_refused = first == Err(VersionError::NoMemory);
     let told = tell(rt, is_refused);
-    let mut stays = true;
+    let mut before = Ok(());
     let number = if is_refused {
-        stays = is_newest(&versions, BEFORE, 2);
+        before = check_newest(&versions, BEFORE, 2);
         versions.commit(alloc, batch_of(alloc, ENTRIES[1])?)?
     } else {
         first?
     };
-    Ok(asked && told && stays && number == 2 && is_newest(&versions, AFTER, 3))
+    Ok(
+        asked
+            .and(told)
+            .and(before)
+            .and(check(number == 2, "the number of the commit"))
+            .and(check_newest(&versions, AFTER, 3)),
+    )
 }
 
 #[test]
 fn a_commit(rt: HostRuntime) {
-    assert!(rt; commits(&rt) == Ok(true));
+    assert_eq!(rt; commits(&rt), Ok(Ok(())));
 }
 
 const SCRIPT: &[u8] =
@@ -178,9 +196,9 @@ fn run(alloc: Global, written: &mut Vec<u8>) -> Result<bool, ScriptError> {
     result
 }
 
-// Runs the script, again where memory is refused, before which it has written a beginning of its replies. Returns whether it writes
+// Runs the script, again if memory is refused. Checks that it has written a beginning of its replies before that, and that it writes
 // them all.
-fn replies<R: Print + AllocGlobal>(rt: &R) -> Result<bool, AllocError> {
+fn replies<R: Print + AllocGlobal>(rt: &R) -> Result<Checked, AllocError> {
     let mut written = Vec::with_capacity(rt.alloc(), WRITTEN.len())?;
     let asked = ask(rt);
     let mut ended = run(rt.alloc(), &mut written);
@@ -192,11 +210,16 @@ fn replies<R: Print + AllocGlobal>(rt: &R) -> Result<bool, AllocError> {
         written.clear();
         ended = run(rt.alloc(), &mut written);
     }
-    let is_whole = ended == Ok(false) && written.as_slice() == WRITTEN;
-    Ok(asked && told && is_begun && is_whole)
+    Ok(
+        asked
+            .and(told)
+            .and(check(is_begun, "the beginning of the replies"))
+            .and(check(ended == Ok(false), "the end of the script"))
+            .and(check(written.as_slice() == WRITTEN, "the replies")),
+    )
 }
 
 #[test]
 fn a_script(rt: HostRuntime) {
-    assert!(rt; replies(&rt) == Ok(true));
+    assert_eq!(rt; replies(&rt), Ok(Ok(())));
 }

@@ -11,6 +11,7 @@ use std::alloc::{AllocError, Global};
 use std::io;
 use std::io::{Error, ErrorKind, Read, Write};
 use std::sync::atomic::{AtomicU64, Ordering};
+use test_helpers::{Checked, check};
 
 /// One program, for whose runs there is never memory enough. It notes by how many workers a run was asked for.
 #[derive(Drop)]
@@ -137,9 +138,9 @@ fn run(alloc: Global, program: &StarvedProgram, given: &[u8], most: usize, room:
     (result, bytes)
 }
 
-// Whether a script whose reader fails after so many bytes has replied to the lines that had ended, and one whose writer has so much
-// room fills it.
-fn fails_at(alloc: Global, most: usize, count: usize) -> bool {
+// Checks that a script whose reader fails after so many bytes has replied to the lines that had ended, and that one whose writer has
+// so much room fills it.
+fn check_failures(alloc: Global, most: usize, count: usize) -> Checked {
     let (program, given) = (StarvedProgram::new(), &LINES[..count.min(LINES.len())]);
     let (read, replies) = run(alloc, &program, given, most, usize::MAX);
     let (written, filled) = run(alloc, &program, LINES, most, count);
@@ -150,18 +151,21 @@ fn fails_at(alloc: Global, most: usize, count: usize) -> bool {
     };
     let wanted = &REPLIES[..replied(count).min(REPLIES.len())];
     let room = &REPLIES[..count.min(REPLIES.len())];
-    let are_read = read == Err(ScriptError::ReadFailed) && replies.as_slice() == wanted;
-    are_read && written == Err(told) && filled.as_slice() == room
+    check(
+        read == Err(ScriptError::ReadFailed),
+        "the error of the reader",
+    )?;
+    check(replies.as_slice() == wanted, "the replies before it")?;
+    check(written == Err(told), "the error of the writer")?;
+    check(filled.as_slice() == room, "the replies that have room")
 }
 
 #[test]
 fn devices_are_slow_and_interrupted_and_fail(rt: HostRuntime) {
     for most in [1, 3, usize::MAX] {
         for count in 0..=LINES.len() {
-            assert!(rt;
-                fails_at(rt.alloc(), most, count),
-                "{count} bytes, by {most}"
-            );
+            let failed = check_failures(rt.alloc(), most, count);
+            assert_eq!(rt; failed, Ok(()), "{count} bytes, by {most}");
         }
     }
 }
@@ -174,18 +178,26 @@ const RUNS: [(&[u8], u64); 4] = [
     (b"vertices 4\nrun 1 9 64\nedges\n", 64),
 ];
 
-// Whether a run goes by so many workers. It lacks memory, so the script ends, and what is written is a beginning of the replies before
-// the run.
-fn goes_by(alloc: Global, lines: &[u8], workers: u64) -> bool {
+// Checks that a run is by so many workers. It lacks memory, so the script ends, and has written a beginning of the replies before the
+// run.
+fn check_workers(alloc: Global, lines: &[u8], workers: u64) -> Checked {
     let program = StarvedProgram::new();
     let (ended, written) = run(alloc, &program, lines, usize::MAX, usize::MAX);
-    let begun = b"open 4\n".starts_with(written.as_slice());
-    begun && ended == Err(ScriptError::NoMemory) && program.0.load(Ordering::SeqCst) == workers
+    check(b"open 4\n".starts_with(written.as_slice()), "the replies")?;
+    check(ended == Err(ScriptError::NoMemory), "the end of the script")?;
+    check(
+        program.0.load(Ordering::SeqCst) == workers,
+        "how many workers there are",
+    )
 }
 
 #[test]
 fn runs_are_by_the_workers_of_their_line(rt: HostRuntime) {
     for (lines, workers) in RUNS {
-        assert!(rt; goes_by(rt.alloc(), lines, workers), "{workers} workers");
+        assert_eq!(rt;
+            check_workers(rt.alloc(), lines, workers),
+            Ok(()),
+            "{workers} workers"
+        );
     }
 }

@@ -1,6 +1,7 @@
 //! Bytes of tails.
 use std::alloc::Global;
 use tail_codec::{Tail, TailError};
+use test_helpers::{Checked, check};
 
 // A base, a list of keys with weights above it, and the bytes that spell it.
 type Spelling = (Option<u32>, &'static [(u32, i64)], &'static [u8]);
@@ -23,25 +24,27 @@ const SPELLINGS: [Spelling; 7] = [
     (Some(10), &[(11, 7)], b"\x01\x0e"),
 ];
 
-// Whether the list has these bytes, and the bytes this list.
-fn is_spelled(
+// Checks that the list has these bytes, and the bytes this list.
+fn check_spelling(
     alloc: Global,
     base: Option<u32>,
     list: &[(u32, i64)],
     bytes: &[u8],
-) -> Result<bool, TailError> {
-    let made = Tail::encode(alloc, base, list)?.bytes() == bytes;
+) -> Result<Checked, TailError> {
+    let made = Tail::encode(alloc, base, list)?;
     let read = Tail::from_bytes(alloc, base, bytes)?.share()?;
-    Ok(made && read.iter().eq(list.iter().copied()))
+    let is_read = read.iter().eq(list.iter().copied());
+    Ok(check(made.bytes() == bytes, "the bytes of the list").and(check(
+        is_read,
+        "the list of the bytes",
+    )))
 }
 
 #[test]
 fn spells_lists(rt: HostRuntime) {
     for (base, list, bytes) in SPELLINGS {
-        assert!(rt;
-            is_spelled(rt.alloc(), base, list, bytes) == Ok(true),
-            "{list:?}"
-        );
+        let spelled = check_spelling(rt.alloc(), base, list, bytes);
+        assert_eq!(rt; spelled, Ok(Ok(())), "{list:?}");
     }
 }
 
@@ -52,14 +55,19 @@ const ENTRIES: [(i64, &[u8]); 3] = [
     (i64::MAX, b"\x01\xfe\xff\xff\xff\xff\xff\xff\xff\xff\x01"),
 ];
 
-// Whether the first numbers, so many, each with a weight, are spelled by as many turns of these bytes.
-fn are_spelled(alloc: Global, count: u32, weight: i64, entry: &[u8]) -> Result<bool, TailError> {
+// Checks that the first numbers, so many, each with a weight, are spelled by as many turns of these bytes.
+fn check_numbers(
+    alloc: Global,
+    count: u32,
+    weight: i64,
+    entry: &[u8],
+) -> Result<Checked, TailError> {
     let (mut list, mut bytes) = (Vec::new(alloc), Vec::new(alloc));
     for key in 0..count {
         list.push((key, weight))?;
         bytes.extend_from_slice(entry)?;
     }
-    is_spelled(alloc, None, &list, &bytes)
+    check_spelling(alloc, None, &list, &bytes)
 }
 
 // Up to 127 bytes a tail is one allocation.
@@ -67,8 +75,8 @@ fn are_spelled(alloc: Global, count: u32, weight: i64, entry: &[u8]) -> Result<b
 fn long_tails_are_spelled(rt: HostRuntime) {
     for count in [63, 64, 126, 127, 128, 129, 1_000] {
         for (weight, entry) in ENTRIES {
-            let are = are_spelled(rt.alloc(), count, weight, entry);
-            assert!(rt; are == Ok(true), "{count} entries of {weight}");
+            let spelled = check_numbers(rt.alloc(), count, weight, entry);
+            assert_eq!(rt; spelled, Ok(Ok(())), "{count} entries of {weight}");
         }
     }
 }
@@ -97,6 +105,6 @@ const SHORT_STRINGS: [(usize, u32, u32); 4] = [
 fn so_many_short_strings_spell_a_list(rt: HostRuntime) {
     for (length, strings, count) in SHORT_STRINGS {
         let found = spellings_of(rt.alloc(), length, strings);
-        assert!(rt; found == count, "of {length} bytes");
+        assert_eq!(rt; found, count, "of {length} bytes");
     }
 }

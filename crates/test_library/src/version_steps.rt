@@ -3,6 +3,7 @@ use Asked::{Acquire, Commit, Release, Trim};
 use Reply::{Refused, Released, Ticket, Trimmed, Version};
 use std::alloc::Global;
 use std::thread::Threads;
+use test_helpers::{Checked, check};
 use tree_batch::Batch;
 use version_list::{Reply, Step, VersionError, Versions, Which};
 
@@ -78,33 +79,37 @@ const HISTORIES: [(u64, &[(Asked, Reply)]); 3] = [
     ),
 ];
 
-// Whether a history with so much room answers the steps so.
-fn answers(alloc: Global, room: u64, asked: &[(Asked, Reply)]) -> Result<bool, VersionError> {
+// The place of the first step that a history with so much room answers otherwise, if there is one; also if there is another number of
+// replies.
+fn first_wrong(
+    alloc: Global,
+    room: u64,
+    asked: &[(Asked, Reply)],
+) -> Result<Option<usize>, VersionError> {
     let mut steps = Vec::new(alloc);
     for (step, _) in asked {
         steps.push(step.step(alloc))?;
     }
     let mut versions = Versions::with_room(alloc, 3, 64, room)?;
     let replies = versions.run(alloc, &steps)?;
-    let mut same = replies.len() == asked.len();
-    for (found, (_, reply)) in replies.iter().zip(asked) {
-        same = same && found == reply;
+    for (at, (_, reply)) in asked.iter().enumerate() {
+        if replies.get(at) != Some(reply) {
+            return Ok(Some(at));
+        }
     }
-    Ok(same)
+    Ok((replies.len() != asked.len()).then_some(asked.len()))
 }
 
 #[test]
 fn a_history_has_room_for_its_tickets(rt: HostRuntime) {
     for (room, asked) in HISTORIES {
-        assert!(rt;
-            answers(rt.alloc(), room, asked) == Ok(true),
-            "a room of {room}"
-        );
+        let wrong = first_wrong(rt.alloc(), room, asked);
+        assert_eq!(rt; wrong, Ok(None), "a room of {room}");
     }
 }
 
-// Whether the steps of the first history are answered so by a call each: a commit by its two halves where it has room.
-fn calls_answer<R: Threads + AllocGlobal + Sync>(rt: &R) -> Result<bool, VersionError> {
+// Checks that the steps of the first history are answered so by a call each: a commit by its two halves where it has room.
+fn check_calls<R: Threads + AllocGlobal + Sync>(rt: &R) -> Result<Checked, VersionError> {
     let mut versions = Versions::with_room(rt.alloc(), 3, 64, 3)?;
     let (ticket, graph) = versions.acquire(Which::Newest)?;
     let held = (
@@ -123,36 +128,45 @@ fn calls_answer<R: Threads + AllocGlobal + Sync>(rt: &R) -> Result<bool, Version
     let last = versions.commit(rt.alloc(), Batch::new(rt.alloc())).err();
     let full = Some(VersionError::HistoryFull);
     Ok(
-        ticket.number == 1
-            && held == (3, 0, Some(0))
-            && before == (0, 1)
-            && number == 1
-            && after == (1, 2)
-            && second == full
-            && hold == full
-            && released.is_ok()
-            && last == full,
+        check(ticket.number == 1, "the ticket")
+            .and(check(held == (3, 0, Some(0)), "what is held"))
+            .and(check(before == (0, 1), "the newest version before the commit"))
+            .and(check(number == 1, "the number of the commit"))
+            .and(check(after == (1, 2), "the newest version after the commit"))
+            .and(check(second == full, "a second commit"))
+            .and(check(hold == full, "a second hold"))
+            .and(check(released.is_ok(), "the release"))
+            .and(check(last == full, "a commit after the release")),
     )
 }
 
 #[test]
 fn each_call_answers_as_its_step(rt: HostRuntime) {
-    assert!(rt; calls_answer(&rt) == Ok(true));
+    assert_eq!(rt; check_calls(&rt), Ok(Ok(())));
 }
 
-// Whether a trim by its two halves drops two entries, and the version that a ticket holds stays.
-fn trims(alloc: Global) -> Result<bool, VersionError> {
+// Checks that a trim by its two halves drops two entries, and that the version that a ticket holds stays.
+fn check_trim(alloc: Global) -> Result<Checked, VersionError> {
     let mut versions = Versions::with_room(alloc, 3, 64, 3)?;
     versions.commit(alloc, Batch::new(alloc))?;
     let ticket = versions.acquire(Which::Newest)?.0;
     let prepared = versions.prepare_trim()?;
     let dropped = versions.finish_trim(prepared);
     versions.commit(alloc, Batch::new(alloc))?;
-    let stays = versions.version(ticket) == Some(1) && versions.graph(ticket).is_some();
-    Ok(dropped == 2 && stays && versions.newest().0 == 2 && versions.history().len() == 1)
+    let length = versions.history().len();
+    Ok(
+        check(dropped == 2, "how many entries are dropped")
+            .and(check(
+                versions.version(ticket) == Some(1),
+                "the version that is held",
+            ))
+            .and(check(versions.graph(ticket).is_some(), "the graph that is held"))
+            .and(check(versions.newest().0 == 2, "the newest version"))
+            .and(check(length == 1, "the length of the history")),
+    )
 }
 
 #[test]
 fn a_trim_keeps_what_is_held(rt: HostRuntime) {
-    assert!(rt; trims(rt.alloc()) == Ok(true));
+    assert_eq!(rt; check_trim(rt.alloc()), Ok(Ok(())));
 }

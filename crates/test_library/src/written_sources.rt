@@ -2,6 +2,7 @@
 use parser::parse;
 use source_text::write;
 use std::alloc::Global;
+use test_helpers::{Checked, check};
 
 // Sources, and what is written of them after the lines of the head.
 const SOURCES: [(&[u8], &[u8]); 5] = [
@@ -45,46 +46,37 @@ const WRITTEN_SEARCH: &[u8] =
 
 const HEAD: &[u8] = b"element Vertex end\nelement Edge end\n";
 
-// Whether this is written of a source, after the lines of the head.
-fn is_written(alloc: Global, text: &[u8], want: &[u8]) -> bool {
-    let Ok(source) = parse(alloc, text) else {
-        return false;
-    };
-    match write(alloc, &source) {
-        Ok(lines) => lines.strip_prefix(HEAD) == Some(want),
-        Err(_) => false,
-    }
+// What is written of a text.
+fn written(alloc: Global, text: &[u8]) -> Result<Vec<u8>, &'static str> {
+    let source = parse(alloc, text).map_err(|_| "the text is not parsed")?;
+    write(alloc, &source).map_err(|_| "the source is not written")
 }
 
-// Whether a text is read back from what is written of it, so that the same is written of both.
-fn is_read_back(alloc: Global, text: &[u8]) -> bool {
-    let Ok(source) = parse(alloc, text) else {
-        return false;
-    };
-    let Ok(written) = write(alloc, &source) else {
-        return false;
-    };
-    let Ok(again) = parse(alloc, &written) else {
-        return false;
-    };
-    match write(alloc, &again) {
-        Ok(lines) => lines == written,
-        Err(_) => false,
-    }
+// Checks that this is written of a text, after the lines of the head.
+fn check_written(alloc: Global, text: &[u8], want: &[u8]) -> Checked {
+    let lines = written(alloc, text)?;
+    check(lines.strip_prefix(HEAD) == Some(want), "the lines")
+}
+
+// Checks that a text is read back from what is written of it, so that the same is written of both.
+fn check_read_back(alloc: Global, text: &[u8]) -> Checked {
+    let first = written(alloc, text)?;
+    let second = written(alloc, &first)?;
+    check(second == first, "what is written of the lines")
 }
 
 #[test]
 fn a_search_is_written_and_read_back(rt: HostRuntime) {
-    assert!(rt; is_written(rt.alloc(), SEARCH, WRITTEN_SEARCH));
-    assert!(rt; is_read_back(rt.alloc(), SEARCH));
+    assert_eq!(rt; check_written(rt.alloc(), SEARCH, WRITTEN_SEARCH), Ok(()));
+    assert_eq!(rt; check_read_back(rt.alloc(), SEARCH), Ok(()));
     for (text, _) in SOURCES {
-        assert!(rt; is_read_back(rt.alloc(), text), "{text:?}");
+        assert_eq!(rt; check_read_back(rt.alloc(), text), Ok(()), "{text:?}");
     }
 }
 
 #[test]
 fn statements_stand_on_lines(rt: HostRuntime) {
     for (text, want) in SOURCES {
-        assert!(rt; is_written(rt.alloc(), text, want), "{text:?}");
+        assert_eq!(rt; check_written(rt.alloc(), text, want), Ok(()), "{text:?}");
     }
 }

@@ -18,8 +18,8 @@ pub use programs::{PROGRAMS, SEARCHES_AND_LABELS, Scheduled};
 use runner::run_alone;
 use schedule::accept;
 use std::alloc::{AllocError, Global};
+use test_helpers::{Checked, check};
 use typed_tree::Typed;
-use types::check;
 
 /// A program that was checked, and its plan.
 pub struct TestedProgram {
@@ -46,32 +46,36 @@ impl TestedProgram {
 /// The checked program that a text is, or `None` where it is none or memory runs out. Its schedule is not looked at.
 pub fn checked(alloc: Global, text: &[u8]) -> Option<Typed> {
     let source = parse(alloc, text).ok()?;
-    check(alloc, &source).ok()
+    types::check(alloc, &source).ok()
 }
 
-/// Whether a program shows the same by its plan and by the slow run, on a graph of these edges, with n turns. The
+/// Checks that a program shows the same by its plan and by the slow run, on a graph of these edges, with n turns. The
 /// only error is out of memory.
-pub fn shows_the_same(
+pub fn check_plan(
     alloc: Global,
     program: &TestedProgram,
     graph: &Flat,
     edges: &[(u32, u32, i64)],
     turns: u64,
-) -> Result<bool, AllocError> {
+) -> Result<Checked, AllocError> {
     let by_plan = run_alone(alloc, &program.plan, graph, turns)?;
-    match plain_run(alloc, &program.typed, graph.vertices(), edges, turns) {
-        Ok(slowly) => Ok(are_the_same(&by_plan, &slowly)),
-        Err(error) => Err(error),
-    }
+    let slowly = plain_run(alloc, &program.typed, graph.vertices(), edges, turns)?;
+    Ok(check_same(&by_plan, &slowly))
 }
 
-/// Whether two outcomes are the same: ends, turns, texts, and vectors and sets in order.
-pub fn are_the_same(one: &Outcome, other: &Outcome) -> bool {
-    one.end == other.end
-        && one.turns == other.turns
-        && one.text.as_slice() == other.text.as_slice()
-        && are_same_vectors(one.vectors.as_slice(), other.vectors.as_slice())
-        && are_same_sets(one.sets.as_slice(), other.sets.as_slice())
+/// Checks that two outcomes are the same: ends, turns, texts, and vectors and sets in order.
+pub fn check_same(one: &Outcome, other: &Outcome) -> Checked {
+    check(one.end == other.end, "the end")?;
+    check(one.turns == other.turns, "the turns")?;
+    check(one.text.as_slice() == other.text.as_slice(), "the text")?;
+    check(
+        are_same_vectors(one.vectors.as_slice(), other.vectors.as_slice()),
+        "the vectors",
+    )?;
+    check(
+        are_same_sets(one.sets.as_slice(), other.sets.as_slice()),
+        "the sets",
+    )
 }
 
 fn are_same_vectors(some: &[NamedVector], others: &[NamedVector]) -> bool {

@@ -1,11 +1,12 @@
 //! Two searches side by side on two versions, in every order of their first six steps.
 
 use crate::programs::{FORK, session};
-use crate::rows::{Deed, Row, Shown, shows, steps_of};
+use crate::rows::{Deed, Row, Shown, check_job, steps_of};
 use algorithm_meaning::End;
 use session::{Session, SessionError, SessionReply, SessionStep};
 use std::alloc::Global;
 use std::test::Fail;
+use test_helpers::Checked;
 use tree_batch::Entry;
 use version_list::{Reply, Which};
 
@@ -65,17 +66,17 @@ fn take_in_order(
     Ok(())
 }
 
-// Whether two new searches show what they should after their steps in an order.
-fn stand_alike(
+// Checks what each of two new searches shows after their steps in an order.
+fn check_jobs(
     alloc: Global,
     session: &mut Session,
     jobs: [u64; 2],
     order: u32,
-) -> Result<bool, SessionError> {
+) -> Result<(Checked, Checked), SessionError> {
     take_in_order(alloc, session, jobs, order)?;
-    let first = shows(alloc, session, jobs[0], &ON_THE_FORK)?;
-    let second = shows(alloc, session, jobs[1], &ON_ONE_BRANCH)?;
-    Ok(first && second)
+    let first = check_job(alloc, session, jobs[0], &ON_THE_FORK)?;
+    let second = check_job(alloc, session, jobs[1], &ON_ONE_BRANCH)?;
+    Ok((first, second))
 }
 
 // A session with the two versions.
@@ -85,25 +86,29 @@ fn two_versions(alloc: Global) -> Result<Session, Fail> {
     Ok(session)
 }
 
-// How many orders there are, and in how many both jobs show what they should.
-fn count_orders(alloc: Global) -> Result<(u32, u32), Fail> {
+// An order after which a job does not show what it should, and the check of each job.
+type WrongOrder = (u32, Checked, Checked);
+
+// How many orders are tried, and the first that is wrong.
+fn try_orders(alloc: Global) -> Result<(u32, Option<WrongOrder>), Fail> {
     let mut session = two_versions(alloc)?;
-    let (mut tried, mut right, mut next) = (0u32, 0u32, 1u64);
+    let (mut tried, mut next) = (0u32, 1u64);
     for order in 0..4096u32 {
         if order.count_ones() == 6 {
             let jobs = [next, next.wrapping_add(1)];
-            let alike = stand_alike(alloc, &mut session, jobs, order)?;
+            let (first, second) = check_jobs(alloc, &mut session, jobs, order)?;
             tried = tried.wrapping_add(1);
-            right = right.wrapping_add(u32::from(alike));
             next = next.wrapping_add(2);
+            if first.is_err() || second.is_err() {
+                return Ok((tried, Some((order, first, second))));
+            }
         }
     }
-    Ok((tried, right))
+    Ok((tried, None))
 }
 
 #[test]
 fn two_jobs_stand_alike_in_every_order(rt: HostRuntime) -> Result<(), Fail> {
-    let counts = count_orders(rt.alloc())?;
-    assert!(rt; counts == (924, 924));
+    assert_eq!(rt; try_orders(rt.alloc())?, (924, None));
     Ok(())
 }

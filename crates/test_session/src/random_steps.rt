@@ -2,13 +2,14 @@
 
 use crate::plain_world::{MOST_VERTICES, PlainWorld};
 use crate::programs::{commit, plans, session};
-use crate::rows::{shown_by, shows};
+use crate::rows::{check_job, shown_by};
 use bench_support::{Random, random_weight};
 use plans::Plan;
 use session::{Session, SessionError, SessionReply, SessionStep};
 use std::alloc::{AllocError, Global};
 use std::sync::Arc;
 use std::test::Fail;
+use test_helpers::{Checked, check};
 use tree_batch::Entry;
 use version_list::Which;
 
@@ -80,31 +81,37 @@ fn shared(alloc: Global) -> Result<Vec<Arc<Plan>>, Fail> {
     Ok(shared)
 }
 
-// Whether the job of this number shows what it shows when it is run afresh, or is there in neither.
-fn is_job_alike(
+// Checks that the job of this number shows what it shows when it is run afresh, or is there in neither.
+fn check_afresh(
     alloc: Global,
     session: &Session,
     world: &PlainWorld,
     plans: &[Arc<Plan>],
     number: u64,
-) -> Result<bool, Fail> {
+) -> Result<Checked, Fail> {
     match world.afresh(alloc, plans, number)? {
-        Some((_stand, wanted)) => Ok(shows(alloc, session, number, &shown_by(&wanted))?),
-        None => Ok(session.job(number).is_none()),
+        Some((_stand, wanted)) => Ok(check_job(alloc, session, number, &shown_by(&wanted))?),
+        None => Ok(check(
+            session.job(number).is_none(),
+            "a job that the plain world has not",
+        )),
     }
 }
 
-// Whether a session answers a step as the plain world does, and as it was answered among all at once.
-fn is_step_alike(
+// Checks that a session answers a step as the plain world does, and as it was answered among all at once.
+fn check_step(
     alloc: Global,
     session: &mut Session,
     world: &mut PlainWorld,
     plans: &[Arc<Plan>],
     (step, at_once): (&SessionStep, &SessionReply),
-) -> Result<bool, Fail> {
+) -> Result<Checked, Fail> {
     let reply = session.step(alloc, step.clone()?)?;
     let wanted = world.answer(alloc, plans, step)?;
-    Ok(reply == wanted && *at_once == wanted)
+    Ok(check(reply == wanted, "a reply to one step").and(check(
+        *at_once == wanted,
+        "a reply to all steps at once",
+    )))
 }
 
 // What a session answers to steps at once.
@@ -113,32 +120,36 @@ fn replies_at_once(alloc: Global, steps: &[SessionStep]) -> Result<Vec<SessionRe
     Ok(session.run(alloc, steps)?)
 }
 
-// Whether a session answers a random list of steps as the plain world does, one by one and all at once, and its jobs show the
-// same afterwards.
-fn is_list_alike(alloc: Global, plans: &[Arc<Plan>], seed: u64) -> Result<bool, Fail> {
+// Checks that a session answers a random list of steps as the plain world does, one by one and all at once, and that its jobs show
+// the same afterwards.
+fn check_list(alloc: Global, plans: &[Arc<Plan>], seed: u64) -> Result<Checked, Fail> {
     let steps = random_steps(alloc, seed)?;
     let replies = replies_at_once(alloc, &steps)?;
-    let mut alike = steps.len() == replies.len();
+    let mut checked = check(steps.len() == replies.len(), "how many replies there are");
     let mut session = session(alloc)?;
     let mut world = PlainWorld::new(alloc)?;
     for taken in steps.iter().zip(&replies) {
-        alike = is_step_alike(alloc, &mut session, &mut world, plans, taken)? && alike;
+        checked = checked.and(check_step(alloc, &mut session, &mut world, plans, taken)?);
     }
     for number in 0..8u64 {
-        alike = is_job_alike(alloc, &session, &world, plans, number)? && alike;
+        checked = checked.and(check_afresh(alloc, &session, &world, plans, number)?);
     }
-    Ok(alike)
+    Ok(checked)
+}
+
+// The seed of the first list after which something is otherwise than in the plain world, and the name of that.
+fn first_wrong(alloc: Global) -> Result<Option<(u64, &'static str)>, Fail> {
+    let plans = shared(alloc)?;
+    for seed in 0..LISTS {
+        if let Err(wrong) = check_list(alloc, &plans, seed)? {
+            return Ok(Some((seed, wrong)));
+        }
+    }
+    Ok(None)
 }
 
 #[test]
 fn sessions_stand_where_a_plain_world_stands(rt: HostRuntime) -> Result<(), Fail> {
-    let alloc = rt.alloc();
-    let plans = shared(alloc)?;
-    let mut alike = 0u64;
-    for seed in 0..LISTS {
-        alike = alike.wrapping_add(u64::from(is_list_alike(alloc, &plans, seed)?));
-    }
-    drop(plans);
-    assert_eq!(rt; alike, LISTS);
+    assert_eq!(rt; first_wrong(rt.alloc())?, None);
     Ok(())
 }

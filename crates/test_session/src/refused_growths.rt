@@ -5,7 +5,7 @@
 //! another of the requests for memory that are made between the lines "asked" and "900" or "whole".
 
 use crate::programs::session;
-use crate::rows::{Deed, Shown, shows, steps_of};
+use crate::rows::{Deed, Shown, check_job, steps_of};
 use algorithm_meaning::End;
 use runner::Stand;
 use session::{Session, SessionError, SessionReply, SessionStep};
@@ -65,8 +65,7 @@ fn take_twice(
 ) -> Result<(SessionReply, bool), SessionError> {
     match session.step(alloc, step) {
         Err(SessionError::NoMemory) => Ok((session.step(alloc, again)?, true)),
-        Ok(reply) => Ok((reply, false)),
-        Err(error) => Err(error),
+        first => Ok((first?, false)),
     }
 }
 
@@ -95,9 +94,9 @@ fn ten_steps_of_a_session(rt: HostRuntime) -> Result<(), Fail> {
     let asked = ask(&rt);
     let taken = take(alloc, &mut session, steps, again);
     let told = tell(&rt, matches!(taken, Ok((1, _))));
-    let shown = shows(alloc, &session, 1, &HALFWAY)?;
+    let shown = check_job(alloc, &session, 1, &HALFWAY)?;
     drop(session);
-    assert!(rt; asked && told && shown);
-    assert!(rt; taken == Ok((0, 10)) || taken == Ok((1, 10)));
+    assert_eq!(rt; asked.and(told).and(shown), Ok(()));
+    assert!(rt; taken == Ok((0, 10)) || taken == Ok((1, 10)), "{taken:?}");
     Ok(())
 }

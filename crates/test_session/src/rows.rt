@@ -4,6 +4,7 @@ use crate::programs::commit;
 use algorithm_meaning::{End, Outcome};
 use session::{Session, SessionError, SessionReply, SessionStep};
 use std::alloc::{AllocError, Global};
+use test_helpers::{Checked, check};
 use tree_batch::Entry;
 use version_list::Which;
 
@@ -53,25 +54,25 @@ pub(crate) fn shown_by(outcome: &Outcome) -> Shown<'_> {
     }
 }
 
-// Whether both are the same.
-fn is_same(one: &Shown<'_>, other: &Shown<'_>) -> bool {
-    one.entries == other.entries
-        && one.members == other.members
-        && one.text == other.text
-        && one.end == other.end
-        && one.turns == other.turns
+// Checks that both are the same.
+fn check_same(one: &Shown<'_>, other: &Shown<'_>) -> Checked {
+    check(one.entries == other.entries, "the entries")?;
+    check(one.members == other.members, "the members")?;
+    check(one.text == other.text, "the text")?;
+    check(one.end == other.end, "the end")?;
+    check(one.turns == other.turns, "the turns")
 }
 
-/// Whether the job of this number shows that.
-pub(crate) fn shows(
+/// Checks that the job of this number shows that.
+pub(crate) fn check_job(
     alloc: Global,
     session: &Session,
     number: u64,
     wanted: &Shown<'_>,
-) -> Result<bool, AllocError> {
+) -> Result<Checked, AllocError> {
     match session.job(number) {
-        None => Ok(false),
-        Some(job) => Ok(is_same(&shown_by(&job.outcome(alloc)?), wanted)),
+        None => Ok(Err("the job")),
+        Some(job) => Ok(check_same(&shown_by(&job.outcome(alloc)?), wanted)),
     }
 }
 
@@ -142,15 +143,18 @@ fn last_reply(
     Ok(last)
 }
 
-/// Whether a session does what a row says.
-pub(crate) fn is_right(
+/// Checks that a session does what a row says.
+pub(crate) fn check_row(
     alloc: Global,
     session: &mut Session,
     row: &Row,
-) -> Result<bool, SessionError> {
+) -> Result<Checked, SessionError> {
     match row {
-        Row::Takes(deed, wanted) => Ok(last_reply(alloc, session, *deed)? == Some(*wanted)),
-        Row::Shows(number, wanted) => Ok(shows(alloc, session, *number, wanted)?),
-        Row::HasNo(number) => Ok(session.job(*number).is_none()),
+        Row::Takes(deed, wanted) => {
+            let reply = last_reply(alloc, session, *deed)?;
+            Ok(check(reply == Some(*wanted), "the reply"))
+        }
+        Row::Shows(number, wanted) => Ok(check_job(alloc, session, *number, wanted)?),
+        Row::HasNo(number) => Ok(check(session.job(*number).is_none(), "a job of this number")),
     }
 }

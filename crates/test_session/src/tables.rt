@@ -3,13 +3,14 @@
 use crate::programs::{FORK, plans, session};
 use crate::rows::Deed::{Acquire, Commit, Release, Start, Steps};
 use crate::rows::Row::{HasNo, Shows, Takes};
-use crate::rows::{Row, Shown, count_of, is_right, shows, steps_of_rows};
+use crate::rows::{Row, Shown, check_job, check_row, count_of, steps_of_rows};
 use algorithm_meaning::End;
 use runner::Stand::{Ended, Going};
 use session::SessionReply::{Job, Of, Stands};
 use session::{Session, SessionError, SessionReply};
 use std::alloc::Global;
 use std::test::Fail;
+use test_helpers::{Checked, check};
 use tree_batch::Entry;
 use version_list::Reply::{Refused, Released, Ticket, Version};
 use version_list::Which::{At, Newest};
@@ -234,50 +235,51 @@ const TABLES: [&[Row]; 9] = [
     REFUSED_VERSIONS,
 ];
 
-// The first row of a table, from 1, that a session does not follow, or 0 if it follows all.
-fn first_wrong(alloc: Global, rows: &[Row]) -> Result<u32, Fail> {
+// The place of the first row that a session does not follow, and the name of what is wrong.
+fn first_wrong(alloc: Global, rows: &[Row]) -> Result<Option<(usize, &'static str)>, Fail> {
     let mut session = session(alloc)?;
-    let mut number = 0u32;
-    for row in rows {
-        number = number.wrapping_add(1);
-        if !is_right(alloc, &mut session, row)? {
-            return Ok(number);
+    for (at, row) in rows.iter().enumerate() {
+        if let Err(wrong) = check_row(alloc, &mut session, row)? {
+            return Ok(Some((at, wrong)));
         }
     }
-    Ok(0)
+    Ok(None)
 }
 
-// Whether these replies to all steps of a table are those of its rows.
-fn tells(rows: &[Row], replies: &[SessionReply]) -> bool {
-    let (mut taken, mut same) = (0usize, true);
+// Checks that these replies to all steps of a table are those of its rows.
+fn check_replies(rows: &[Row], replies: &[SessionReply]) -> Checked {
+    let mut taken = 0usize;
     for row in rows {
         if let Takes(deed, wanted) = row {
             taken = taken.wrapping_add(count_of(*deed));
             let reply = replies.get(taken.wrapping_sub(1)).copied();
-            same = same && reply == Some(*wanted);
+            check(reply == Some(*wanted), "a reply")?;
         }
     }
-    same && taken == replies.len()
+    check(taken == replies.len(), "how many replies there are")
 }
 
-// Whether a session that takes all steps of a table at once answers alike, and shows at the end what the last row says.
-fn is_right_at_once(alloc: Global, rows: &[Row]) -> Result<bool, Fail> {
+// Checks that a session that takes all steps of a table at once answers alike, and shows at the end what the last row says.
+fn check_at_once(alloc: Global, rows: &[Row]) -> Result<Checked, Fail> {
     let mut session = session(alloc)?;
     let steps = steps_of_rows(alloc, rows)?;
     let replies = session.run(alloc, &steps)?;
     let shown = match rows.last() {
-        Some(Shows(number, wanted)) => shows(alloc, &session, *number, wanted)?,
-        _ => true,
+        Some(Shows(number, wanted)) => check_job(alloc, &session, *number, wanted)?,
+        _ => Ok(()),
     };
-    Ok(shown && tells(rows, &replies))
+    Ok(shown.and(check_replies(rows, &replies)))
 }
 
 #[test]
 fn sessions_follow_their_tables(rt: HostRuntime) -> Result<(), Fail> {
     for (index, rows) in TABLES.iter().enumerate() {
-        let wrong = first_wrong(rt.alloc(), rows)?;
-        let at_once = is_right_at_once(rt.alloc(), rows)?;
-        assert!(rt; wrong == 0 && at_once, "row {wrong} of table {index}");
+        assert_eq!(rt; first_wrong(rt.alloc(), rows)?, None, "table {index}");
+        assert_eq!(rt;
+            check_at_once(rt.alloc(), rows)?,
+            Ok(()),
+            "table {index}, at once"
+        );
     }
     Ok(())
 }
@@ -295,7 +297,7 @@ fn sessions_are_not_opened_on_no_graph(rt: HostRuntime) -> Result<(), Fail> {
         (6, 3, SessionError::BadChunkSize),
     ] {
         let error = why_not(rt.alloc(), vertices, chunk_size)?;
-        assert!(rt; error == Some(wanted), "{vertices} {chunk_size}");
+        assert_eq!(rt; error, Some(wanted), "{vertices} {chunk_size}");
     }
     Ok(())
 }
@@ -312,6 +314,6 @@ fn refusals_have_their_numbers(rt: HostRuntime) {
         (SessionError::NoJob, 413),
         (SessionError::NoMemory, 900),
     ] {
-        assert!(rt; error.number() == number, "{number}");
+        assert_eq!(rt; error.number(), number, "{error:?}");
     }
 }

@@ -2,13 +2,15 @@
 ghost use Rattle.std.specs.Prelude.{◌≡◌};
 
 use crate::batches::batch_for;
-use crate::kept::{Kept, has_edges, held_in_chunks, held_is, hold, release};
+use crate::failure::{Answer, Failure, answer, latest, need};
+use crate::kept::{Kept, check_graph, held_in_chunks, held_is, hold, release};
+use crate::memory::growth;
 use crate::roles::commit_many;
 use crate::seats::{Role, Seat, act_all, seats};
-use shared_graph::{Naming, Opening, Reader, SharedError, SharedGraph};
+use shared_graph::{Naming, Opening, Reader, SharedGraph};
 use std::alloc::Global;
 use std::marker::Brand;
-use std::rt::Clock;
+use std::rt::{Clock, Files};
 use std::sync::Wait;
 use std::thread::Threads;
 use test_helpers::{ask, tell};
@@ -45,11 +47,12 @@ pub(crate) enum Call {
     Asked(&'static Call),
     /// Has all readers do these roles beside one another.
     All(&'static [Role]),
+    /// Makes many rounds of steps. Answered by how many pages more the memory grows by than it may.
+    Rounds,
 }
 
-/// The number of a reader, its call, and how that is answered: by the number of a version, how many entries were dropped, or 0;
-/// or by the number of a refusal, or 0 where something else was seen.
-pub(crate) type Row = (usize, Call, Result<u64, u16>);
+/// The number of a reader, its call, and how that is answered.
+pub(crate) type Row = (usize, Call, Answer);
 
 /// The calls on a graph that is opened so, and those after it is gone.
 #[derive(Clone, Copy)]
@@ -62,53 +65,48 @@ pub(crate) struct Table {
     pub(crate) closed: &'static [Row],
 }
 
-/// The answer to a step.
-pub(crate) fn answer(made: Result<u64, SharedError>) -> Result<u64, u16> {
-    match made {
-        Ok(number) => Ok(number),
-        Err(error) => Err(error.number()),
-    }
+/// Why a table is not answered as it must be: the number with which its graph is not opened, or the place of the first row with another
+/// answer, and that answer, of the rows while the graph is there or of those after it is gone.
+#[derive(Clone, Copy, Debug, PartialEq, Eq)]
+pub(crate) enum Wrong {
+    NotOpened(u16),
+    Row(usize, Answer),
+    ClosedRow(usize, Answer),
 }
 
-// Whether a version is what a call says.
-fn is_seen(call: Call, graph: &Graph) -> bool {
+// Checks that a version is what a call says.
+fn check_seen(call: Call, graph: &Graph) -> Result<(), Failure> {
     match call {
-        Call::Is(vertices, edges) => has_edges(graph, vertices, edges),
+        Call::Is(vertices, edges) => check_graph(graph, vertices, edges),
         Call::Counts(vertices, edges) => {
-            graph.vertices() == vertices && graph.edge_count() == edges
+            need(graph.vertices() == vertices, Failure::Vertices)?;
+            need(graph.edge_count() == edges, Failure::Edges)
         }
-        _ => false,
+        _ => Err(Failure::Call),
     }
 }
 
 // Takes the newest version once.
-fn look_once<J: Naming>(me: &mut Reader<J>, call: Call) -> Result<u64, u16> {
-    match me.latest() {
-        Ok(version) => {
-            if is_seen(call, &version.graph) {
-                Ok(version.number)
-            } else {
-                Err(0)
-            }
-        }
-        Err(error) => Err(error.number()),
-    }
+fn look_once<J: Naming>(me: &mut Reader<J>, call: Call) -> Answer {
+    let version = latest(me)?;
+    check_seen(call, &version.graph)?;
+    Ok(version.number)
 }
 
 // Takes the newest version three times.
-fn look<J: Naming>(me: &mut Reader<J>, call: Call) -> Result<u64, u16> {
+fn look<J: Naming>(me: &mut Reader<J>, call: Call) -> Answer {
     let first = look_once(me, call);
     if look_once(me, call) == first && look_once(me, call) == first {
         first
     } else {
-        Err(0)
+        Err(Failure::Newest)
     }
 }
 
 // Has a reader learn what the first reader's token tells.
-fn learn<J: Naming>(seats: &mut Vec<Seat<J>>, who: usize) -> Result<u64, u16> {
+fn learn<J: Naming>(seats: &mut Vec<Seat<J>>, who: usize) -> Answer {
     let Some(first) = seats.first() else {
-        return Err(0);
+        return Err(Failure::Call);
     };
     let token = first.reader.token();
     if let Some(me) = seats.get_mut(who) {
@@ -125,7 +123,7 @@ fn call_on<J: Naming, R: Threads + Wait + Sync>(
     me: &mut Reader<J>,
     kept: &mut Vec<Kept<J>>,
     (call, batch): (Call, Batch),
-) -> Result<u64, u16> {
+) -> Answer {
     match call {
         Call::Hold(which) => hold(rt, alloc, graph, me, (kept, which)),
         Call::Release => release(rt, graph, me, kept),
@@ -143,30 +141,33 @@ fn call_by<J: Naming, R: Threads + Wait + Sync>(
     me: &mut Reader<J>,
     kept: &mut Vec<Kept<J>>,
     call: Call,
-) -> Result<u64, u16> {
+) -> Answer {
     match batch_for(alloc, call) {
         Ok(batch) => call_on(rt, alloc, graph, me, kept, (call, batch)),
-        Err(_) => Err(0),
+        Err(_) => Err(Failure::Memory),
     }
 }
 
 // The newest version of all readers: its number, its vertices and its edges.
-fn seen<J: Naming>(seats: &mut Vec<Seat<J>>) -> Option<(u64, u32, usize)> {
-    let mut seen = None;
+fn seen<J: Naming>(seats: &mut Vec<Seat<J>>) -> Result<(u64, u32, usize), Failure> {
+    let mut seen = Err(Failure::Call);
     for seat in seats.as_mut_slice().iter_mut() {
-        let version = seat.reader.latest().ok()?;
-        let found = Some((
+        let version = latest(&mut seat.reader)?;
+        let found = Ok((
             version.number,
             version.graph.vertices(),
             version.graph.edge_count(),
         ));
-        if seen != None && seen != found {
-            return None;
+        if seen.is_ok() && seen != found {
+            return Err(Failure::Newest);
         }
         seen = found;
     }
     seen
 }
+
+// The answer to a call that memory ran out for.
+const REFUSED: Answer = Err(Failure::Refused(900));
 
 // Makes a call of the first reader that memory may run out for, and once more then. All readers are given the same version until
 // then.
@@ -177,28 +178,25 @@ fn call_asked<J: Naming, R: Threads + Wait + Print + Sync>(
     seats: &mut Vec<Seat<J>>,
     kept: &mut Vec<Kept<J>>,
     call: Call,
-) -> Result<u64, u16> {
-    let (Ok(batch), before) = (batch_for(alloc, call), seen(seats)) else {
-        return Err(0);
+) -> Answer {
+    let before = seen(seats)?;
+    let Ok(batch) = batch_for(alloc, call) else {
+        return Err(Failure::Memory);
     };
     let Some(me) = seats.get_mut(0) else {
-        return Err(0);
+        return Err(Failure::Call);
     };
     let asked = ask(rt);
     let first = call_on(rt, alloc, graph, &mut me.reader, kept, (call, batch));
-    let told = tell(rt, first == Err(900));
-    if !asked || !told || before == None {
-        return Err(0);
-    }
-    if first != Err(900) {
+    let told = tell(rt, first == REFUSED);
+    need(asked.and(told).is_ok(), Failure::Print)?;
+    if first != REFUSED {
         return first;
     }
-    if seen(seats) != before {
-        return Err(0);
-    }
+    need(seen(seats)? == before, Failure::Newest)?;
     match seats.get_mut(0) {
         Some(me) => call_by(rt, alloc, graph, &mut me.reader, kept, call),
-        None => Err(0),
+        None => Err(Failure::Call),
     }
 }
 
@@ -208,27 +206,27 @@ fn call_alone<J: Naming>(
     seats: &mut Vec<Seat<J>>,
     kept: &Vec<Kept<J>>,
     (who, call): (usize, Call),
-) -> Result<u64, u16> {
+) -> Answer {
     match call {
         Call::Learn => learn(seats, who),
         Call::Held(ticket, vertices, edges) => held_is(kept, (ticket, vertices), edges),
         Call::InChunks(chunk_size) => held_in_chunks(alloc, kept, chunk_size),
         _ => match seats.get_mut(who) {
             Some(me) => look(&mut me.reader, call),
-            None => Err(0),
+            None => Err(Failure::Call),
         },
     }
 }
 
 // Makes a call.
-fn make<J: Naming + Send + Sync, R: Threads + Wait + Clock + Print + Sync>(
+fn make<J: Naming + Send + Sync, R: Threads + Wait + Clock + Print + Files + AllocGlobal + Sync>(
     rt: &R,
     alloc: Global,
     graph: &SharedGraph<J, &R>,
     seats: &mut Vec<Seat<J>>,
     kept: &mut Vec<Kept<J>>,
     (who, call): (usize, Call),
-) -> Result<u64, u16> {
+) -> Answer {
     match call {
         Call::Learn | Call::Held(..) | Call::InChunks(_) | Call::Is(..) | Call::Counts(..) => {
             call_alone(alloc, seats, kept, (who, call))
@@ -236,51 +234,57 @@ fn make<J: Naming + Send + Sync, R: Threads + Wait + Clock + Print + Sync>(
         Call::Asked(call) => call_asked(rt, alloc, graph, seats, kept, *call),
         Call::All(roles) => act_all(rt, alloc, graph, seats, roles),
         _ => match seats.get_mut(who) {
-            Some(me) => call_by(rt, alloc, graph, &mut me.reader, kept, call),
-            None => Err(0),
+            Some(me) => match call {
+                Call::Rounds => growth(rt, alloc, graph, &mut me.reader),
+                _ => call_by(rt, alloc, graph, &mut me.reader, kept, call),
+            },
+            None => Err(Failure::Call),
         },
     }
 }
 
-// The place of the first row that is answered otherwise.
-fn first_wrong<J: Naming + Send + Sync, R: Threads + Wait + Clock + Print + Sync>(
+// Checks the rows while the graph is there.
+fn check_rows<
+    J: Naming + Send + Sync,
+    R: Threads + Wait + Clock + Print + Files + AllocGlobal + Sync,
+>(
     rt: &R,
     alloc: Global,
     graph: &SharedGraph<J, &R>,
     seats: &mut Vec<Seat<J>>,
     kept: &mut Vec<Kept<J>>,
     rows: &[Row],
-) -> Option<usize> {
-    for (at, (who, call, answer)) in rows.iter().enumerate() {
-        if make(rt, alloc, graph, seats, kept, (*who, *call)) != *answer {
-            return Some(at);
+) -> Result<(), Wrong> {
+    for (at, (who, call, wanted)) in rows.iter().enumerate() {
+        let made = make(rt, alloc, graph, seats, kept, (*who, *call));
+        if made != *wanted {
+            return Err(Wrong::Row(at, made));
         }
     }
-    None
+    Ok(())
 }
 
-// The same of rows whose graph is gone.
-fn first_wrong_closed<J: Naming>(
+// Checks the rows after the graph is gone.
+fn check_closed_rows<J: Naming>(
     alloc: Global,
     seats: &mut Vec<Seat<J>>,
     kept: &Vec<Kept<J>>,
     rows: &[Row],
-) -> Option<usize> {
-    for (at, (who, call, answer)) in rows.iter().enumerate() {
-        if call_alone(alloc, seats, kept, (*who, *call)) != *answer {
-            return Some(at);
+) -> Result<(), Wrong> {
+    for (at, (who, call, wanted)) in rows.iter().enumerate() {
+        let made = call_alone(alloc, seats, kept, (*who, *call));
+        if made != *wanted {
+            return Err(Wrong::ClosedRow(at, made));
         }
     }
-    None
+    Ok(())
 }
 
-fn opened<J: Naming + Send + Sync, R: Threads + Wait + Clock + Print + AllocGlobal + Sync>(
-    rt: &R,
-    opening: Opening,
-    vertices: u32,
-    room: u64,
-    table: &Table,
-) -> [Result<Option<usize>, u16>; 2]
+// Checks a table on the graph of a new name.
+fn check_opened<
+    J: Naming + Send + Sync,
+    R: Threads + Wait + Clock + Print + Files + AllocGlobal + Sync,
+>(rt: &R, opening: Opening, vertices: u32, room: u64, table: &Table) -> Result<(), Wrong>
     requires book { opening ≡ J.book }
     requires vertices { J.vertices ≡ vertices }
     requires room { J.room ≡ room }
@@ -298,24 +302,20 @@ fn opened<J: Naming + Send + Sync, R: Threads + Wait + Clock + Print + AllocGlob
         Ok((graph, readers)) => {
             let mut seats = seats(alloc, readers);
             let Ok(mut kept) = Vec::with_capacity(alloc, 4) else {
-                return [Err(900); 2];
+                return Err(Wrong::NotOpened(900));
             };
-            let open = first_wrong(rt, alloc, &graph, &mut seats, &mut kept, table.rows);
+            let open = check_rows(rt, alloc, &graph, &mut seats, &mut kept, table.rows);
             drop(graph);
-            [
-                Ok(open),
-                Ok(first_wrong_closed(alloc, &mut seats, &kept, table.closed)),
-            ]
+            open.and(check_closed_rows(alloc, &mut seats, &kept, table.closed))
         }
-        Err(error) => [Err(error.number()); 2],
+        Err(error) => Err(Wrong::NotOpened(error.number())),
     }
 }
 
-/// The places of the first rows that are not answered as they must be, while the graph is there and after it is gone; or why the graph
-/// is not opened.
-pub(crate) fn wrong<R: Threads + Wait + Clock + Print + AllocGlobal + Sync>(
+/// Opens a graph and makes the calls of a table on it. Checks that each is answered as its row says.
+pub(crate) fn check_table<R: Threads + Wait + Clock + Print + Files + AllocGlobal + Sync>(
     rt: &R,
     table: &Table,
-) -> [Result<Option<usize>, u16>; 2] {
-    opened::<Brand, R>(rt, Opening::new(), table.vertices, table.room, table)
+) -> Result<(), Wrong> {
+    check_opened::<Brand, R>(rt, Opening::new(), table.vertices, table.room, table)
 }

@@ -1,6 +1,7 @@
 //! Versions that are held, and released.
 
 use crate::batches::hub_batch;
+use crate::failure::{Answer, Failure, need};
 use shared_graph::{Held, Naming, Reader, SharedGraph, Unreleased};
 use std::alloc::Global;
 use std::sync::Wait;
@@ -29,14 +30,18 @@ pub(crate) fn hold<J: Naming, R: Wait>(
     graph: &SharedGraph<J, &R>,
     me: &mut Reader<J>,
     (kept, which): (&mut Vec<Kept<J>>, Which),
-) -> Result<u64, u16> {
+) -> Answer {
     match graph.hold(rt, alloc, me, which) {
         Ok(held) => {
             let number = held.snapshot().number;
             let is_kept = kept.push(Kept { held: Some(held) }).is_ok();
-            if is_kept { Ok(number) } else { Err(0) }
+            if is_kept {
+                Ok(number)
+            } else {
+                Err(Failure::Memory)
+            }
         }
-        Err(error) => Err(error.number()),
+        Err(error) => Err(Failure::Refused(error.number())),
     }
 }
 
@@ -46,25 +51,34 @@ pub(crate) fn release<J: Naming, R: Wait>(
     graph: &SharedGraph<J, &R>,
     me: &mut Reader<J>,
     kept: &mut Vec<Kept<J>>,
-) -> Result<u64, u16> {
+) -> Answer {
     let Some(mut last) = kept.pop() else {
-        return Err(0);
+        return Err(Failure::Held);
     };
     let Some(held) = last.held.take() else {
-        return Err(0);
+        return Err(Failure::Held);
     };
     match graph.release(rt, me, held) {
         Ok(()) => Ok(0),
         Err(Unreleased { error, held }) => {
             let is_kept = kept.push(Kept { held: Some(held) }).is_ok();
-            if is_kept { Err(error.number()) } else { Err(0) }
+            if is_kept {
+                Err(Failure::Refused(error.number()))
+            } else {
+                Err(Failure::Memory)
+            }
         }
     }
 }
 
-/// Whether a graph has so many vertices, and these edges.
-pub(crate) fn has_edges(graph: &Graph, vertices: u32, edges: &[(u32, u32, i64)]) -> bool {
-    graph.vertices() == vertices && graph.edges().eq(edges.iter().copied())
+/// Checks that a graph has so many vertices, and these edges.
+pub(crate) fn check_graph(
+    graph: &Graph,
+    vertices: u32,
+    edges: &[(u32, u32, i64)],
+) -> Result<(), Failure> {
+    need(graph.vertices() == vertices, Failure::Vertices)?;
+    need(graph.edges().eq(edges.iter().copied()), Failure::Edges)
 }
 
 /// The number of the version that was held last, if it has this ticket, so many vertices, and these edges.
@@ -72,17 +86,15 @@ pub(crate) fn held_is<J: Naming>(
     kept: &Vec<Kept<J>>,
     (ticket, vertices): (u64, u32),
     edges: &[(u32, u32, i64)],
-) -> Result<u64, u16> {
+) -> Answer {
     match kept.last() {
         Some(Kept { held: Some(held) }) => {
             let version = held.snapshot();
-            if held.ticket().number == ticket && has_edges(&version.graph, vertices, edges) {
-                Ok(version.number)
-            } else {
-                Err(0)
-            }
+            need(held.ticket().number == ticket, Failure::Ticket)?;
+            check_graph(&version.graph, vertices, edges)?;
+            Ok(version.number)
         }
-        _ => Err(0),
+        _ => Err(Failure::Held),
     }
 }
 
@@ -92,29 +104,27 @@ pub(crate) fn held_in_chunks<J: Naming>(
     alloc: Global,
     kept: &Vec<Kept<J>>,
     chunk_size: u32,
-) -> Result<u64, u16> {
+) -> Answer {
     match kept.last() {
         Some(Kept { held: Some(held) }) => {
             let version = held.snapshot();
-            if stand_in_chunks(&version.graph, 5, chunk_size)
-                && goes_on_in_chunks(alloc, &version.graph, chunk_size)
-            {
-                Ok(version.number)
-            } else {
-                Err(0)
-            }
+            let stand = stand_in_chunks(&version.graph, 5, chunk_size);
+            need(stand.is_ok(), Failure::ChunkSize)?;
+            check_next(alloc, &version.graph, chunk_size)?;
+            Ok(version.number)
         }
-        _ => Err(0),
+        _ => Err(Failure::Held),
     }
 }
 
-// Whether a batch of the next vertex makes sets in chunks of this size.
-fn goes_on_in_chunks(alloc: Global, graph: &Graph, chunk_size: u32) -> bool {
-    match hub_batch(alloc, 5, (true, true)) {
-        Ok(batch) => match graph.apply(alloc, &batch) {
-            Ok(next) => stand_in_chunks(&next, 6, chunk_size),
-            Err(_) => false,
-        },
-        Err(_) => false,
+// Checks that a batch of the next vertex makes sets in chunks of this size.
+fn check_next(alloc: Global, graph: &Graph, chunk_size: u32) -> Result<(), Failure> {
+    let batch = hub_batch(alloc, 5, (true, true)).map_err(|_| Failure::Memory)?;
+    match graph.apply(alloc, &batch) {
+        Ok(next) => need(
+            stand_in_chunks(&next, 6, chunk_size).is_ok(),
+            Failure::NextChunkSize,
+        ),
+        Err(error) => Err(Failure::Refused(error.number())),
     }
 }

@@ -1,7 +1,8 @@
 //! Tests of shared graphs on threads: what no contract says of two passes that told each other nothing, of chunk sizes, and of
 //! calls after a refusal; and calls that memory may run out for.
 //!
-//! All tests are tables of calls with their answers (`tables.rt`, `beside.rt` and `refused_growths.rt`), which `calls.rt` makes.
+//! All tests are tables of calls with their answers (`tables.rt`, `beside.rt`, `memory.rt` and `refused_growths.rt`), which `calls.rt`
+//! makes on a graph that it opens.
 //!
 //! They stand apart from `test_library`, so that no other test has leave to wait, and both crates are
 //! proved side by side.
@@ -13,6 +14,8 @@ mod batches;
 mod beside;
 #[cfg(test)]
 mod calls;
+#[cfg(test)]
+mod failure;
 #[cfg(test)]
 mod kept;
 #[cfg(test)]

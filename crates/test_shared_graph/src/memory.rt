@@ -1,17 +1,16 @@
 //! Resident memory after many steps on a shared graph.
-ghost use Rattle.std.specs.Prelude.{◌≡◌};
 
-use crate::calls::answer;
-use shared_graph::{Naming, Opening, Reader, SharedGraph, Unreleased};
+use crate::calls::{Call, Table, check_table};
+use crate::failure::{Answer, Failure, answer, latest};
+use shared_graph::{Naming, Reader, SharedGraph, Unreleased};
 use std::alloc::{AllocError, Global};
 use std::fs;
-use std::marker::Brand;
 use std::rt::Files;
 use std::sync::Wait;
 use std::test::Fail;
 use std::thread::Threads;
 use tree_batch::{Batch, Entry};
-use version_list::Which;
+use version_list::{MAX_HISTORY, Which};
 
 const VERTICES: u32 = 64;
 
@@ -53,10 +52,10 @@ fn commit<J: Naming, R: Threads + Wait + Sync>(
     graph: &SharedGraph<J, &R>,
     me: &mut Reader<J>,
     round: u32,
-) -> Result<u64, u16> {
+) -> Answer {
     match edges(alloc, round) {
         Ok(batch) => answer(graph.commit(rt, alloc, me, batch)),
-        Err(_) => Err(900),
+        Err(_) => Err(Failure::Memory),
     }
 }
 
@@ -67,25 +66,26 @@ fn make_round<J: Naming, R: Threads + Wait + Sync>(
     graph: &SharedGraph<J, &R>,
     me: &mut Reader<J>,
     round: u32,
-) -> Result<u64, u16> {
+) -> Answer {
     commit(rt, alloc, graph, me, round)?;
     let held = match graph.hold(rt, alloc, me, Which::Newest) {
         Ok(held) => held,
-        Err(error) => return Err(error.number()),
+        Err(error) => return Err(Failure::Refused(error.number())),
     };
     let committed = commit(rt, alloc, graph, me, round.wrapping_mul(3));
-    let looked = me.latest().is_ok();
+    let looked = latest(me).map(|_| ());
     let released = match graph.release(rt, me, held) {
         Ok(()) => Ok(0),
         Err(Unreleased { error, held }) => {
             held.into_snapshot();
-            Err(error.number())
+            Err(Failure::Refused(error.number()))
         }
     };
     let trimmed = answer(graph.trim(rt, me))?;
     committed?;
     released?;
-    if looked { Ok(trimmed) } else { Err(0) }
+    looked?;
+    Ok(trimmed)
 }
 
 // Asks for blocks and frees them, so that what is kept of freed memory is of one size from now on.
@@ -102,13 +102,13 @@ fn pages<R: Files + AllocGlobal>(rt: &R) -> Option<u64> {
     text.split(' ').nth(1)?.parse().ok()
 }
 
-// By how many pages the memory grows after the first rounds.
-fn grown_by<J: Naming, R: Threads + Wait + Files + AllocGlobal + Sync>(
+/// By how many pages more than it may the memory grows after the first rounds.
+pub(crate) fn growth<J: Naming, R: Threads + Wait + Files + AllocGlobal + Sync>(
     rt: &R,
     alloc: Global,
     graph: &SharedGraph<J, &R>,
     me: &mut Reader<J>,
-) -> Result<u64, u16> {
+) -> Answer {
     let mut before = None;
     for round in 0..LAST {
         if round == FIRST {
@@ -118,39 +118,23 @@ fn grown_by<J: Naming, R: Threads + Wait + Files + AllocGlobal + Sync>(
         make_round(rt, alloc, graph, me, round)?;
     }
     match (before, pages(rt)) {
-        (Some(before), Some(after)) => Ok(after.saturating_sub(before)),
-        _ => Err(0),
+        (Some(before), Some(after)) => { Ok(after.saturating_sub(before).saturating_sub(SLACK)) }
+        _ => Err(Failure::Pages),
     }
-}
-
-fn opened<J: Naming, R: Threads + Wait + Files + AllocGlobal + Sync>(
-    rt: &R,
-    opening: Opening,
-    vertices: u32,
-) -> Result<u64, u16>
-    requires book { opening ≡ J.book }
-    requires vertices { J.vertices ≡ vertices }
-    requires room { J.room ≡ 16777216 }
-{
-    let alloc = rt.alloc();
-    match SharedGraph::<J, &R>::open(rt, alloc, opening, vertices, 64, 1) {
-        Ok((graph, mut readers)) => match readers.get_mut(0) {
-            Some(me) => grown_by(rt, alloc, &graph, me),
-            None => Err(0),
-        },
-        Err(error) => Err(error.number()),
-    }
-}
-
-// By how many pages the memory of a shared graph grows.
-fn growth<R: Threads + Wait + Files + AllocGlobal + Sync>(rt: &R) -> Result<u64, u16> {
-    opened::<Brand, R>(rt, Opening::new(), VERTICES)
 }
 
 // After the first commits, holds, looks, releases and trims, many more take no memory that stays.
+const ROUNDS: Table = Table {
+    vertices: VERTICES,
+    chunk_size: 64,
+    readers: 1,
+    room: MAX_HISTORY,
+    rows: &[(0, Call::Rounds, Ok(0))],
+    closed: &[],
+};
+
 #[test]
 fn steps_leave_no_memory_behind(rt: HostRuntime) -> Result<(), Fail> {
-    let grown = growth(&rt);
-    assert!(rt; matches!(grown, Ok(pages) if pages <= SLACK), "{grown:?}");
+    assert_eq!(rt; check_table(&rt, &ROUNDS), Ok(()));
     Ok(())
 }

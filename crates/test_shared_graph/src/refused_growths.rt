@@ -4,13 +4,11 @@
 //! With ample memory a test sees the answer alone. `bench/refused-growths` runs each again and again, and refuses one after
 //! another of the requests for memory that are made between the lines "asked" and "900" or "whole".
 
-use crate::calls::{Call, Table, wrong};
+use crate::calls::{Call, Table, check_table};
+use crate::failure::Failure::Refused;
 use std::test::Fail;
 use tree_batch::Entry;
 use version_list::{MAX_HISTORY, Which};
-
-// How a table is answered whose rows are all answered as they must be.
-const RIGHT: [Result<Option<usize>, u16>; 2] = [Ok(None); 2];
 
 const COMMIT: Table = Table {
     vertices: 3,
@@ -36,7 +34,7 @@ const COMMIT: Table = Table {
 
 #[test]
 fn a_commit(rt: HostRuntime) -> Result<(), Fail> {
-    assert_eq!(rt; wrong(&rt, &COMMIT), RIGHT);
+    assert_eq!(rt; check_table(&rt, &COMMIT), Ok(()));
     Ok(())
 }
 
@@ -71,7 +69,7 @@ const SECOND_COMMIT: Table = Table {
 
 #[test]
 fn a_second_commit(rt: HostRuntime) -> Result<(), Fail> {
-    assert_eq!(rt; wrong(&rt, &SECOND_COMMIT), RIGHT);
+    assert_eq!(rt; check_table(&rt, &SECOND_COMMIT), Ok(()));
     Ok(())
 }
 
@@ -99,7 +97,7 @@ const HOLD: Table = Table {
 
 #[test]
 fn a_hold(rt: HostRuntime) -> Result<(), Fail> {
-    assert_eq!(rt; wrong(&rt, &HOLD), RIGHT);
+    assert_eq!(rt; check_table(&rt, &HOLD), Ok(()));
     Ok(())
 }
 
@@ -130,7 +128,7 @@ const RELEASE: Table = Table {
         (0, Call::Asked(&Call::Release), Ok(0)),
         (0, Call::Is(70, &[(0, 2, 9), (3, 0, 5), (69, 3, 1)]), Ok(2)),
         (1, Call::Is(70, &[(0, 2, 9), (3, 0, 5), (69, 3, 1)]), Ok(2)),
-        (0, Call::Hold(Which::At(1)), Err(121)),
+        (0, Call::Hold(Which::At(1)), Err(Refused(121))),
         (1, Call::Trim, Ok(4)),
     ],
     closed: &[],
@@ -138,7 +136,7 @@ const RELEASE: Table = Table {
 
 #[test]
 fn a_release(rt: HostRuntime) -> Result<(), Fail> {
-    assert_eq!(rt; wrong(&rt, &RELEASE), RIGHT);
+    assert_eq!(rt; check_table(&rt, &RELEASE), Ok(()));
     Ok(())
 }
 
@@ -174,6 +172,6 @@ const TRIM: Table = Table {
 
 #[test]
 fn a_trim(rt: HostRuntime) -> Result<(), Fail> {
-    assert_eq!(rt; wrong(&rt, &TRIM), RIGHT);
+    assert_eq!(rt; check_table(&rt, &TRIM), Ok(()));
     Ok(())
 }

@@ -1,7 +1,7 @@
 //! What readers do beside others, each on a thread of its own.
 
 use crate::batches::{GROWN, grown};
-use crate::calls::answer;
+use crate::failure::{Answer, Failure, answer, latest, need};
 use crate::kept::{hold, release};
 use crate::seats::Role;
 use shared_graph::{Naming, Reader, SharedGraph, Snapshot, Unreleased};
@@ -20,7 +20,7 @@ pub(crate) fn act<J: Naming, R: Threads + Wait + Clock + Sync>(
     graph: &SharedGraph<J, &R>,
     me: &mut Reader<J>,
     role: Role,
-) -> Result<u64, u16> {
+) -> Answer {
     match role {
         Role::Idle => Ok(0),
         Role::Commit(count) => commit_many(rt, alloc, graph, me, count),
@@ -38,7 +38,7 @@ pub(crate) fn commit_many<J: Naming, R: Threads + Wait + Sync>(
     graph: &SharedGraph<J, &R>,
     me: &mut Reader<J>,
     count: u64,
-) -> Result<u64, u16> {
+) -> Answer {
     let mut cubes = 0u64;
     for _ in 0..count {
         let number = answer(graph.commit(rt, alloc, me, Batch::new(alloc)))?;
@@ -55,13 +55,11 @@ fn write<J: Naming, R: Threads + Wait + Sync>(
     graph: &SharedGraph<J, &R>,
     me: &mut Reader<J>,
     (end, each): (u64, u64),
-) -> Result<u64, u16> {
+) -> Answer {
     let mut dropped = 0u64;
     for number in newest(me)?..end {
         let next = number.wrapping_add(1);
-        if make(rt, alloc, graph, me, next)? != next {
-            return Err(0);
-        }
+        need(make(rt, alloc, graph, me, next)? == next, Failure::Number)?;
         if next.checked_rem(each) == Some(0) {
             dropped = dropped.wrapping_add(answer(graph.trim(rt, me))?);
         }
@@ -76,26 +74,25 @@ fn make<J: Naming, R: Threads + Wait + Sync>(
     graph: &SharedGraph<J, &R>,
     me: &mut Reader<J>,
     number: u64,
-) -> Result<u64, u16> {
+) -> Answer {
     match grown(alloc, number) {
         Ok(batch) => answer(graph.commit(rt, alloc, me, batch)),
-        Err(_) => Err(900),
+        Err(_) => Err(Failure::Memory),
     }
 }
 
 // The number of the newest version.
-fn newest<J: Naming>(me: &mut Reader<J>) -> Result<u64, u16> {
-    match me.latest() {
-        Ok(version) => Ok(version.number),
-        Err(error) => Err(error.number()),
-    }
+fn newest<J: Naming>(me: &mut Reader<J>) -> Answer {
+    let version = latest(me)?;
+    Ok(version.number)
 }
 
-// Whether a version has the vertices and edges of its number.
-fn is_grown(version: &Snapshot) -> bool {
+// Checks that a version has the vertices and edges of its number.
+fn check_grown(version: &Snapshot) -> Result<(), Failure> {
     let edges = version.number.min(GROWN);
     let vertices = u64::from(version.graph.vertices());
-    vertices == edges.wrapping_add(1) && version.graph.edge_count() as u64 == edges
+    need(vertices == edges.wrapping_add(1), Failure::Vertices)?;
+    need(version.graph.edge_count() as u64 == edges, Failure::Edges)
 }
 
 // Holds, trims, releases and trims so many times. The answer is how many entries its trims dropped, if each version is what it
@@ -106,7 +103,7 @@ fn hold_and_trim<J: Naming, R: Wait>(
     graph: &SharedGraph<J, &R>,
     me: &mut Reader<J>,
     times: u64,
-) -> Result<u64, u16> {
+) -> Answer {
     let mut dropped = 0u64;
     for _ in 0..times {
         dropped = dropped.wrapping_add(hold_once(rt, alloc, graph, me)?);
@@ -121,20 +118,20 @@ fn hold_once<J: Naming, R: Wait>(
     alloc: Global,
     graph: &SharedGraph<J, &R>,
     me: &mut Reader<J>,
-) -> Result<u64, u16> {
+) -> Answer {
     match graph.hold(rt, alloc, me, Which::Newest) {
         Ok(held) => {
             let trimmed = answer(graph.trim(rt, me));
-            let stays = is_grown(held.snapshot());
+            let stays = check_grown(held.snapshot());
             match graph.release(rt, me, held) {
-                Ok(()) => if stays { trimmed } else { Err(0) },
+                Ok(()) => stays.and(trimmed),
                 Err(Unreleased { error, held }) => {
                     held.into_snapshot();
-                    Err(error.number())
+                    Err(Failure::Refused(error.number()))
                 }
             }
         }
-        Err(error) => Err(error.number()),
+        Err(error) => Err(Failure::Refused(error.number())),
     }
 }
 
@@ -142,32 +139,25 @@ fn hold_once<J: Naming, R: Wait>(
 const MOST_READS: u32 = 1_000_000;
 
 // Looks at each version that comes, up to this one: the numbers must never fall, and each version be what it should.
-fn watch<J: Naming, C: Clock>(clock: &C, me: &mut Reader<J>, end: u64) -> Result<u64, u16> {
+fn watch<J: Naming, C: Clock>(clock: &C, me: &mut Reader<J>, end: u64) -> Answer {
     let mut seen = 0;
     for _ in 0..MOST_READS {
         let number = look(me)?;
-        if number < seen {
-            return Err(0);
-        }
+        need(number >= seen, Failure::Number)?;
         if number == end {
             return Ok(0);
         }
         seen = number;
         thread::sleep(clock, Duration::from_micros(200));
     }
-    Err(0)
+    Err(Failure::Late)
 }
 
 // The number of the newest version, if that is what it should be.
-fn look<J: Naming>(me: &mut Reader<J>) -> Result<u64, u16> {
-    match me.latest() {
-        Ok(version) => if is_grown(&version) {
-            Ok(version.number)
-        } else {
-            Err(0)
-        },
-        Err(error) => Err(error.number()),
-    }
+fn look<J: Naming>(me: &mut Reader<J>) -> Answer {
+    let version = latest(me)?;
+    check_grown(&version)?;
+    Ok(version.number)
 }
 
 // A trim, and then a commit, a hold with its release, a trim and a look.
@@ -176,7 +166,7 @@ fn go_on<J: Naming, R: Threads + Wait + Sync>(
     alloc: Global,
     graph: &SharedGraph<J, &R>,
     me: &mut Reader<J>,
-) -> Result<u64, u16> {
+) -> Answer {
     answer(graph.trim(rt, me))?;
     commit_many(rt, alloc, graph, me, 1)?;
     let mut kept = Vec::new(alloc);

@@ -1,5 +1,6 @@
 //! Readers with their roles, each on a thread of its own.
 
+use crate::failure::Answer;
 use crate::roles::act;
 use shared_graph::{Naming, Reader, SharedGraph};
 use std::alloc::Global;
@@ -28,7 +29,7 @@ pub(crate) enum Role {
 pub(crate) struct Seat<J: Naming> {
     pub(crate) reader: Reader<J>,
     role: Role,
-    answer: Result<u64, u16>,
+    answer: Answer,
 }
 
 impl<J: Naming> Drop for Seat<J> {
@@ -65,7 +66,7 @@ pub(crate) fn act_all<J: Naming + Send + Sync, R: Threads + Wait + Clock + Sync>
     graph: &SharedGraph<J, &R>,
     seats: &mut Vec<Seat<J>>,
     roles: &[Role],
-) -> Result<u64, u16> {
+) -> Answer {
     let seats = seats.as_mut_slice();
     let mut role = Role::Idle;
     for (at, seat) in seats.iter_mut().enumerate() {
@@ -85,10 +86,7 @@ pub(crate) fn act_all<J: Naming + Send + Sync, R: Threads + Wait + Clock + Sync>
     );
     let mut sum = 0u64;
     for seat in seats.iter() {
-        match seat.answer {
-            Ok(answer) => sum = sum.wrapping_add(answer),
-            Err(error) => return Err(error),
-        }
+        sum = sum.wrapping_add(seat.answer?);
     }
     Ok(sum)
 }

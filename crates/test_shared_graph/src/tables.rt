@@ -1,14 +1,12 @@
 //! Tables of calls one after another: what a token tells, little room, trims, held versions beside growth, a graph that is gone,
 //! refusals, long histories, large commits, and chunk sizes.
 
-use crate::calls::{Call, Row, Table, wrong};
+use crate::calls::{Call, Row, Table, Wrong, check_table};
+use crate::failure::Failure::Refused;
 use crate::seats::Role;
 use std::test::Fail;
 use tree_batch::Entry;
 use version_list::{MAX_HISTORY, Which};
-
-// How a table is answered whose rows are all answered as they must be.
-const RIGHT: [Result<Option<usize>, u16>; 2] = [Ok(None); 2];
 
 // A second reader, which learns from the first, and a third, which learns nothing, are given what the first commits, and the third
 // each of ten more commits.
@@ -21,7 +19,7 @@ const TOLD: Table = Table {
         (0, Call::Commit(&[Entry::Add(0, 1, 1)]), Ok(1)),
         (1, Call::Learn, Ok(0)),
         (1, Call::Is(3, &[(0, 1, 1)]), Ok(1)),
-        (1, Call::Hold(Which::At(0)), Err(121)),
+        (1, Call::Hold(Which::At(0)), Err(Refused(121))),
         (1, Call::Hold(Which::Newest), Ok(1)),
         (1, Call::Release, Ok(0)),
         (2, Call::Is(3, &[(0, 1, 1)]), Ok(1)),
@@ -51,7 +49,7 @@ const TOLD: Table = Table {
 
 #[test]
 fn what_a_token_tells_and_what_none_told(rt: HostRuntime) -> Result<(), Fail> {
-    assert_eq!(rt; wrong(&rt, &TOLD), RIGHT);
+    assert_eq!(rt; check_table(&rt, &TOLD), Ok(()));
     Ok(())
 }
 
@@ -65,20 +63,20 @@ const ROOM_OF_SEVEN: Table = Table {
         (0, Call::Hold(Which::Newest), Ok(0)),
         (0, Call::Hold(Which::Newest), Ok(0)),
         (0, Call::Hold(Which::Newest), Ok(0)),
-        (0, Call::Hold(Which::Newest), Err(123)),
+        (0, Call::Hold(Which::Newest), Err(Refused(123))),
         (0, Call::Commit(&[]), Ok(1)),
-        (0, Call::Commit(&[]), Err(123)),
+        (0, Call::Commit(&[]), Err(Refused(123))),
         (0, Call::Release, Ok(0)),
         (0, Call::Release, Ok(0)),
         (0, Call::Release, Ok(0)),
-        (0, Call::Commit(&[]), Err(123)),
+        (0, Call::Commit(&[]), Err(Refused(123))),
     ],
     closed: &[],
 };
 
 #[test]
 fn a_room_of_seven(rt: HostRuntime) -> Result<(), Fail> {
-    assert_eq!(rt; wrong(&rt, &ROOM_OF_SEVEN), RIGHT);
+    assert_eq!(rt; check_table(&rt, &ROOM_OF_SEVEN), Ok(()));
     Ok(())
 }
 
@@ -113,17 +111,25 @@ const HELD: Table = Table {
         (2, Call::Hold(Which::At(1)), Ok(1)),
         (2, Call::Release, Ok(0)),
         (2, Call::Release, Ok(0)),
-        (2, Call::Commit(&[Entry::Grow(9), Entry::Grow(3)]), Err(111)),
-        (2, Call::Commit(&[Entry::Grow(16_777_217)]), Err(111)),
+        (
+            2,
+            Call::Commit(&[Entry::Grow(9), Entry::Grow(3)]),
+            Err(Refused(111)),
+        ),
+        (
+            2,
+            Call::Commit(&[Entry::Grow(16_777_217)]),
+            Err(Refused(111)),
+        ),
         (
             2,
             Call::Commit(&[Entry::Add(4, 0, 1), Entry::Grow(4)]),
-            Err(111),
+            Err(Refused(111)),
         ),
         (2, Call::Is(4, &[(1, 0, 1), (2, 0, 1), (3, 0, 1)]), Ok(3)),
         (1, Call::Learn, Ok(0)),
         (1, Call::Is(4, &[(1, 0, 1), (2, 0, 1), (3, 0, 1)]), Ok(3)),
-        (2, Call::Hold(Which::At(1)), Err(121)),
+        (2, Call::Hold(Which::At(1)), Err(Refused(121))),
         (2, Call::Trim, Ok(4)),
         (0, Call::Trim, Ok(0)),
         (0, Call::Commit(&[]), Ok(4)),
@@ -133,7 +139,7 @@ const HELD: Table = Table {
 
 #[test]
 fn a_held_version_stays_small(rt: HostRuntime) -> Result<(), Fail> {
-    assert_eq!(rt; wrong(&rt, &HELD), RIGHT);
+    assert_eq!(rt; check_table(&rt, &HELD), Ok(()));
     Ok(())
 }
 
@@ -150,17 +156,17 @@ const GONE: Table = Table {
         (0, Call::Counts(3, 1), Ok(1)),
     ],
     closed: &[
-        (0, Call::Counts(3, 1), Err(125)),
-        (1, Call::Counts(3, 1), Err(125)),
+        (0, Call::Counts(3, 1), Err(Refused(125))),
+        (1, Call::Counts(3, 1), Err(Refused(125))),
         (0, Call::Held(1, 3, &[(0, 1, 1)]), Ok(1)),
         (1, Call::Learn, Ok(0)),
-        (1, Call::Counts(3, 1), Err(125)),
+        (1, Call::Counts(3, 1), Err(Refused(125))),
     ],
 };
 
 #[test]
 fn readers_of_a_graph_that_is_gone_are_refused(rt: HostRuntime) -> Result<(), Fail> {
-    assert_eq!(rt; wrong(&rt, &GONE), RIGHT);
+    assert_eq!(rt; check_table(&rt, &GONE), Ok(()));
     Ok(())
 }
 
@@ -172,39 +178,39 @@ const REFUSED: Table = Table {
     readers: 2,
     room: 12,
     rows: &[
-        (0, Call::Commit(&[Entry::Add(0, 3, 1)]), Err(111)),
+        (0, Call::Commit(&[Entry::Add(0, 3, 1)]), Err(Refused(111))),
         (0, Call::Commit(&[]), Ok(1)),
-        (1, Call::Commit(&[Entry::Add(0, 3, 1)]), Err(111)),
+        (1, Call::Commit(&[Entry::Add(0, 3, 1)]), Err(Refused(111))),
         (0, Call::All(&[Role::GoOn]), Ok(0)),
-        (0, Call::Commit(&[Entry::Add(0, 3, 1)]), Err(111)),
+        (0, Call::Commit(&[Entry::Add(0, 3, 1)]), Err(Refused(111))),
         (0, Call::Hold(Which::Newest), Ok(3)),
         (0, Call::Release, Ok(0)),
-        (1, Call::Commit(&[Entry::Add(0, 3, 1)]), Err(111)),
+        (1, Call::Commit(&[Entry::Add(0, 3, 1)]), Err(Refused(111))),
         (0, Call::All(&[Role::GoOn]), Ok(0)),
-        (0, Call::Commit(&[Entry::Add(0, 3, 1)]), Err(111)),
+        (0, Call::Commit(&[Entry::Add(0, 3, 1)]), Err(Refused(111))),
         (0, Call::Trim, Ok(0)),
-        (1, Call::Commit(&[Entry::Add(0, 3, 1)]), Err(111)),
+        (1, Call::Commit(&[Entry::Add(0, 3, 1)]), Err(Refused(111))),
         (0, Call::All(&[Role::GoOn]), Ok(0)),
-        (0, Call::Commit(&[Entry::Add(0, 3, 1)]), Err(111)),
+        (0, Call::Commit(&[Entry::Add(0, 3, 1)]), Err(Refused(111))),
         (0, Call::Counts(3, 0), Ok(7)),
-        (1, Call::Commit(&[Entry::Add(0, 3, 1)]), Err(111)),
+        (1, Call::Commit(&[Entry::Add(0, 3, 1)]), Err(Refused(111))),
         (0, Call::All(&[Role::GoOn]), Ok(0)),
-        (0, Call::Hold(Which::At(1_000_000)), Err(121)),
+        (0, Call::Hold(Which::At(1_000_000)), Err(Refused(121))),
         (0, Call::Commit(&[]), Ok(10)),
-        (1, Call::Hold(Which::At(1_000_000)), Err(121)),
+        (1, Call::Hold(Which::At(1_000_000)), Err(Refused(121))),
         (0, Call::All(&[Role::GoOn]), Ok(0)),
-        (0, Call::Hold(Which::At(1_000_000)), Err(121)),
+        (0, Call::Hold(Which::At(1_000_000)), Err(Refused(121))),
         (0, Call::Hold(Which::Newest), Ok(12)),
         (0, Call::Release, Ok(0)),
-        (1, Call::Hold(Which::At(1_000_000)), Err(121)),
+        (1, Call::Hold(Which::At(1_000_000)), Err(Refused(121))),
         (0, Call::All(&[Role::GoOn]), Ok(0)),
-        (0, Call::Hold(Which::At(1_000_000)), Err(121)),
+        (0, Call::Hold(Which::At(1_000_000)), Err(Refused(121))),
         (0, Call::Trim, Ok(0)),
-        (1, Call::Hold(Which::At(1_000_000)), Err(121)),
+        (1, Call::Hold(Which::At(1_000_000)), Err(Refused(121))),
         (0, Call::All(&[Role::GoOn]), Ok(0)),
-        (0, Call::Hold(Which::At(1_000_000)), Err(121)),
+        (0, Call::Hold(Which::At(1_000_000)), Err(Refused(121))),
         (0, Call::Counts(3, 0), Ok(16)),
-        (1, Call::Hold(Which::At(1_000_000)), Err(121)),
+        (1, Call::Hold(Which::At(1_000_000)), Err(Refused(121))),
         (0, Call::All(&[Role::GoOn]), Ok(0)),
         (0, Call::Hold(Which::Newest), Ok(18)),
         (0, Call::Commit(&[]), Ok(19)),
@@ -217,11 +223,11 @@ const REFUSED: Table = Table {
         (0, Call::Commit(&[]), Ok(26)),
         (0, Call::Commit(&[]), Ok(27)),
         (0, Call::Commit(&[]), Ok(28)),
-        (0, Call::Commit(&[]), Err(123)),
+        (0, Call::Commit(&[]), Err(Refused(123))),
         (0, Call::Counts(3, 0), Ok(28)),
-        (1, Call::Hold(Which::Newest), Err(123)),
+        (1, Call::Hold(Which::Newest), Err(Refused(123))),
         (0, Call::Release, Ok(0)),
-        (1, Call::Commit(&[]), Err(123)),
+        (1, Call::Commit(&[]), Err(Refused(123))),
         (0, Call::All(&[Role::GoOn]), Ok(0)),
     ],
     closed: &[],
@@ -229,7 +235,7 @@ const REFUSED: Table = Table {
 
 #[test]
 fn calls_are_answered_after_a_refusal(rt: HostRuntime) -> Result<(), Fail> {
-    assert_eq!(rt; wrong(&rt, &REFUSED), RIGHT);
+    assert_eq!(rt; check_table(&rt, &REFUSED), Ok(()));
     Ok(())
 }
 
@@ -254,7 +260,7 @@ const MANY: Table = Table {
 
 #[test]
 fn one_reader_commits_more_than_a_million_times(rt: HostRuntime) -> Result<(), Fail> {
-    assert_eq!(rt; wrong(&rt, &MANY), RIGHT);
+    assert_eq!(rt; check_table(&rt, &MANY), Ok(()));
     Ok(())
 }
 
@@ -277,7 +283,7 @@ const LARGE: Table = Table {
 
 #[test]
 fn commits_of_about_4096_entries_are_whole(rt: HostRuntime) -> Result<(), Fail> {
-    assert_eq!(rt; wrong(&rt, &LARGE), RIGHT);
+    assert_eq!(rt; check_table(&rt, &LARGE), Ok(()));
     Ok(())
 }
 
@@ -286,7 +292,8 @@ fn commits_of_about_4096_entries_are_whole(rt: HostRuntime) -> Result<(), Fail> 
 fn no_reader_and_sixty_five_are_refused(rt: HostRuntime) -> Result<(), Fail> {
     for readers in [0, 65] {
         let table = Table { readers, ..LARGE };
-        assert_eq!(rt; wrong(&rt, &table), [Err(124); 2], "{readers} readers");
+        let refused = Err(Wrong::NotOpened(124));
+        assert_eq!(rt; check_table(&rt, &table), refused, "{readers} readers");
     }
     Ok(())
 }
@@ -352,8 +359,8 @@ fn chunks_of_each_size(rt: HostRuntime) -> Result<(), Fail> {
     for table in [&IN_1, &IN_16, &IN_16_AND_LITTLE_ROOM, &IN_256] {
         let (size, room) = (table.chunk_size, table.room);
         assert_eq!(rt;
-            wrong(&rt, table),
-            RIGHT,
+            check_table(&rt, table),
+            Ok(()),
             "in chunks of {size}, with room for {room}"
         );
     }

@@ -1,6 +1,7 @@
 //! Runs beside a writer, on another thread.
 
 use crate::calls::commit;
+use crate::failure::{Answer, Failure, need};
 use crate::programs::Program;
 use crate::running::{planned, run_newest};
 use plans::Plan;
@@ -37,56 +38,54 @@ pub(crate) fn run_beside<J: Naming + Send + Sync, R: Threads + Wait + Sync>(
     alloc: Global,
     graph: &SharedGraph<J, &R>,
     readers: &mut Vec<Reader<J>>,
-) -> Result<u64, u16> {
+) -> Answer {
     let [writer, reader, ..] = readers.as_mut_slice() else {
-        return Err(0);
+        return Err(Failure::Call);
     };
-    let Some(plan) = planned(alloc, Program::OnPaths.text()) else {
-        return Err(0);
-    };
-    let (are_made, are_right) = join(
+    let plan = planned(alloc, Program::OnPaths.text())?;
+    let (made, right) = join(
         rt,
         || commit_all(rt, alloc, graph, writer),
         || run_all(rt, alloc, &plan, reader),
     );
-    if are_made && are_right {
-        Ok(COMMITS)
-    } else {
-        Err(0)
-    }
+    need(made == COMMITS, Failure::Commits(made))?;
+    need(right == RUNS, Failure::Runs(right))?;
+    Ok(COMMITS)
 }
 
-// Whether all commits are made, and a trim after each eighth drops these eight.
+// How many commits are made until one is not, or a trim after each eighth does not drop these eight.
 fn commit_all<J: Naming, R: Threads + Wait + Sync>(
     rt: &R,
     alloc: Global,
     graph: &SharedGraph<J, &R>,
     me: &mut Reader<J>,
-) -> bool {
+) -> u64 {
+    let mut made = 0;
     for number in 1..=COMMITS {
         if commit(rt, alloc, graph, me, step_to(number)) != Ok(number) {
-            return false;
+            return made;
         }
         if number % 8 == 0 && graph.trim(rt, me) != Ok(8) {
-            return false;
+            return made;
         }
+        made = number;
     }
-    true
+    made
 }
 
-// Whether each of n runs is of its version, and no version is older than the one before.
+// How many runs are of their versions, until one is not, or its version is older than the one before.
 fn run_all<J: Naming, R: Threads + Sync>(
     rt: &R,
     alloc: Global,
     plan: &Plan,
     me: &mut Reader<J>,
-) -> bool {
+) -> u32 {
     let mut seen = 0;
-    for _ in 0..RUNS {
+    for right in 0..RUNS {
         match run_newest(rt, alloc, plan, me, (Program::OnPaths, 2)) {
             Ok(number) if number >= seen => seen = number,
-            _ => return false,
+            _ => return right,
         }
     }
-    true
+    RUNS
 }

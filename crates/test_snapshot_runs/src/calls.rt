@@ -2,6 +2,7 @@
 ghost use Rattle.std.specs.Prelude.{◌≡◌};
 
 use crate::beside::{run_beside, step_to};
+use crate::failure::{Answer, Failure};
 use crate::programs::Program;
 use crate::running::{run_asked, run_on_held, run_program, run_text};
 use shared_graph::{Held, Naming, Opening, Reader, SharedError, SharedGraph, Unreleased};
@@ -38,9 +39,8 @@ pub(crate) enum Call {
     Beside,
 }
 
-/// The number of a reader, its call, and how that is answered: by the number of a version, how many entries were dropped, or 0;
-/// or by the number of a refusal, or 0 where a run shows something else.
-pub(crate) type Row = (usize, Call, Result<u64, u16>);
+/// The number of a reader, its call, and how that is answered.
+pub(crate) type Row = (usize, Call, Answer);
 
 /// The calls on a graph that is opened with so many vertices and readers, and those after it is gone.
 #[derive(Clone, Copy)]
@@ -49,6 +49,15 @@ pub(crate) struct Table {
     pub(crate) readers: usize,
     pub(crate) rows: &'static [Row],
     pub(crate) closed: &'static [Row],
+}
+
+/// Why a table is not answered as it must be: the number with which its graph is not opened, or the place of the first row with another
+/// answer, and that answer, of the rows while the graph is there or of those after it is gone.
+#[derive(Clone, Copy, Debug, PartialEq, Eq)]
+pub(crate) enum Wrong {
+    NotOpened(u16),
+    Row(usize, Answer),
+    ClosedRow(usize, Answer),
 }
 
 // A version that is held, which is let go without a release.
@@ -77,11 +86,8 @@ fn batch_of(alloc: Global, entries: &[Entry]) -> Result<Batch, AllocError> {
 }
 
 // The answer to a step.
-fn answer(made: Result<u64, SharedError>) -> Result<u64, u16> {
-    match made {
-        Ok(number) => Ok(number),
-        Err(error) => Err(error.number()),
-    }
+fn answer(made: Result<u64, SharedError>) -> Answer {
+    made.map_err(|error| Failure::Refused(error.number()))
 }
 
 /// Commits these entries.
@@ -91,10 +97,10 @@ pub(crate) fn commit<J: Naming, R: Threads + Wait + Sync>(
     graph: &SharedGraph<J, &R>,
     me: &mut Reader<J>,
     entries: &[Entry],
-) -> Result<u64, u16> {
+) -> Answer {
     match batch_of(alloc, entries) {
         Ok(batch) => answer(graph.commit(rt, alloc, me, batch)),
-        Err(AllocError) => Err(900),
+        Err(AllocError) => Err(Failure::Memory),
     }
 }
 
@@ -104,14 +110,18 @@ fn hold<J: Naming, R: Wait>(
     graph: &SharedGraph<J, &R>,
     me: &mut Reader<J>,
     (kept, which): (&mut Vec<Kept<J>>, Which),
-) -> Result<u64, u16> {
+) -> Answer {
     match graph.hold(rt, alloc, me, which) {
         Ok(held) => {
             let number = held.snapshot().number;
             let is_kept = kept.push(Kept { held: Some(held) }).is_ok();
-            if is_kept { Ok(number) } else { Err(900) }
+            if is_kept {
+                Ok(number)
+            } else {
+                Err(Failure::Memory)
+            }
         }
-        Err(error) => Err(error.number()),
+        Err(error) => Err(Failure::Refused(error.number())),
     }
 }
 
@@ -120,18 +130,18 @@ fn release<J: Naming, R: Wait>(
     graph: &SharedGraph<J, &R>,
     me: &mut Reader<J>,
     kept: &mut Vec<Kept<J>>,
-) -> Result<u64, u16> {
+) -> Answer {
     let Some(mut last) = kept.pop() else {
-        return Err(0);
+        return Err(Failure::Held);
     };
     let Some(held) = last.held.take() else {
-        return Err(0);
+        return Err(Failure::Held);
     };
     match graph.release(rt, me, held) {
         Ok(()) => Ok(0),
         Err(Unreleased { error, held }) => {
             held.into_snapshot();
-            Err(error.number())
+            Err(Failure::Refused(error.number()))
         }
     }
 }
@@ -142,17 +152,17 @@ fn run_kept<J: Naming, R: Threads + Sync>(
     alloc: Global,
     kept: Option<&Kept<J>>,
     run: (Program, usize),
-) -> Result<u64, u16> {
+) -> Answer {
     match kept {
         Some(Kept { held: Some(held) }) => run_on_held(rt, alloc, held, run),
-        _ => Err(0),
+        _ => Err(Failure::Held),
     }
 }
 
 // Has a reader learn what the first reader's token tells.
-fn learn<J: Naming>(readers: &mut Vec<Reader<J>>, who: usize) -> Result<u64, u16> {
+fn learn<J: Naming>(readers: &mut Vec<Reader<J>>, who: usize) -> Answer {
     let Some(first) = readers.first() else {
-        return Err(0);
+        return Err(Failure::Call);
     };
     let token = first.token();
     if let Some(me) = readers.get_mut(who) {
@@ -167,12 +177,12 @@ fn run_by<J: Naming, R: Threads + Print + Sync>(
     alloc: Global,
     me: &mut Reader<J>,
     call: Call,
-) -> Result<u64, u16> {
+) -> Answer {
     match call {
         Call::Newest(program, workers) => run_program(rt, alloc, me, (program, workers)),
         Call::Text(program, workers) => run_text(rt, alloc, me, (program, workers)),
         Call::Asked(program, workers) => run_asked(rt, alloc, me, (program, workers)),
-        _ => Err(0),
+        _ => Err(Failure::Call),
     }
 }
 
@@ -184,7 +194,7 @@ fn call_by<J: Naming, R: Threads + Wait + Print + Sync>(
     me: &mut Reader<J>,
     kept: &mut Vec<Kept<J>>,
     call: Call,
-) -> Result<u64, u16> {
+) -> Answer {
     match call {
         Call::Commit(entries) => commit(rt, alloc, graph, me, entries),
         Call::Step(number) => commit(rt, alloc, graph, me, step_to(number)),
@@ -206,60 +216,61 @@ fn make<J: Naming + Send + Sync, R: Threads + Wait + Print + Sync>(
     readers: &mut Vec<Reader<J>>,
     kept: &mut Vec<Kept<J>>,
     (who, call): (usize, Call),
-) -> Result<u64, u16> {
+) -> Answer {
     match call {
         Call::Learn => learn(readers, who),
         Call::Beside => run_beside(rt, alloc, graph, readers),
         _ => match readers.get_mut(who) {
             Some(me) => call_by(rt, alloc, graph, me, kept, call),
-            None => Err(0),
+            None => Err(Failure::Call),
         },
     }
 }
 
-// The place of the first row that is answered otherwise.
-fn first_wrong<J: Naming + Send + Sync, R: Threads + Wait + Print + Sync>(
+// Checks the rows while the graph is there.
+fn check_rows<J: Naming + Send + Sync, R: Threads + Wait + Print + Sync>(
     rt: &R,
     alloc: Global,
     graph: &SharedGraph<J, &R>,
     readers: &mut Vec<Reader<J>>,
     rows: &[Row],
-) -> Option<usize> {
+) -> Result<(), Wrong> {
     let mut kept = Vec::new(alloc);
-    for (at, (who, call, answer)) in rows.iter().enumerate() {
-        if make(rt, alloc, graph, readers, &mut kept, (*who, *call)) != *answer {
-            return Some(at);
+    for (at, (who, call, wanted)) in rows.iter().enumerate() {
+        let made = make(rt, alloc, graph, readers, &mut kept, (*who, *call));
+        if made != *wanted {
+            return Err(Wrong::Row(at, made));
         }
     }
-    None
+    Ok(())
 }
 
-// The same of rows whose graph is gone.
-fn first_wrong_closed<J: Naming, R: Threads + Print + Sync>(
+// Checks the rows after the graph is gone.
+fn check_closed_rows<J: Naming, R: Threads + Print + Sync>(
     rt: &R,
     alloc: Global,
     readers: &mut Vec<Reader<J>>,
     rows: &[Row],
-) -> Option<usize> {
-    for (at, (who, call, answer)) in rows.iter().enumerate() {
-        match readers.get_mut(*who) {
-            Some(me) => {
-                if run_by(rt, alloc, me, *call) != *answer {
-                    return Some(at);
-                }
-            }
-            None => return Some(at),
+) -> Result<(), Wrong> {
+    for (at, (who, call, wanted)) in rows.iter().enumerate() {
+        let made = match readers.get_mut(*who) {
+            Some(me) => run_by(rt, alloc, me, *call),
+            None => Err(Failure::Call),
+        };
+        if made != *wanted {
+            return Err(Wrong::ClosedRow(at, made));
         }
     }
-    None
+    Ok(())
 }
 
-fn opened<J: Naming + Send + Sync, R: Threads + Wait + Print + AllocGlobal + Sync>(
+// Checks a table on the graph of a new name.
+fn check_opened<J: Naming + Send + Sync, R: Threads + Wait + Print + AllocGlobal + Sync>(
     rt: &R,
     opening: Opening,
     vertices: u32,
     table: &Table,
-) -> [Option<usize>; 2]
+) -> Result<(), Wrong>
     requires book { opening ≡ J.book }
     requires vertices { J.vertices ≡ vertices }
     requires room { J.room ≡ 16777216 }
@@ -267,22 +278,18 @@ fn opened<J: Naming + Send + Sync, R: Threads + Wait + Print + AllocGlobal + Syn
     let alloc = rt.alloc();
     match SharedGraph::<J, &R>::open(rt, alloc, opening, vertices, 64, table.readers) {
         Ok((graph, mut readers)) => {
-            let open = first_wrong(rt, alloc, &graph, &mut readers, table.rows);
+            let open = check_rows(rt, alloc, &graph, &mut readers, table.rows);
             drop(graph);
-            [
-                open,
-                first_wrong_closed(rt, alloc, &mut readers, table.closed),
-            ]
+            open.and(check_closed_rows(rt, alloc, &mut readers, table.closed))
         }
-        Err(_) => [Some(0); 2],
+        Err(error) => Err(Wrong::NotOpened(error.number())),
     }
 }
 
-/// Whether all rows of a table are answered as they must be; else the places of the first that are not, while the graph is there
-/// and after it is gone.
-pub(crate) fn wrong<R: Threads + Wait + Print + AllocGlobal + Sync>(
+/// Opens a graph and makes the calls of a table on it. Checks that each is answered as its row says.
+pub(crate) fn check_table<R: Threads + Wait + Print + AllocGlobal + Sync>(
     rt: &R,
     table: &Table,
-) -> [Option<usize>; 2] {
-    opened::<Brand, R>(rt, Opening::new(), table.vertices, table)
+) -> Result<(), Wrong> {
+    check_opened::<Brand, R>(rt, Opening::new(), table.vertices, table)
 }

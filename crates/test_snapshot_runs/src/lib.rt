@@ -9,6 +9,8 @@ mod beside;
 #[cfg(test)]
 mod calls;
 #[cfg(test)]
+mod failure;
+#[cfg(test)]
 mod programs;
 #[cfg(test)]
 mod racing;

@@ -1,5 +1,6 @@
 //! Programs, and what each shows on the versions of a graph.
 
+use crate::failure::{Answer, Failure, need};
 use algorithm_meaning::{End, Outcome};
 use crew::Gate;
 use std::sync::atomic::{AtomicU64, Ordering};
@@ -107,14 +108,15 @@ impl Program {
         }
     }
 
-    /// Whether an outcome on the version of this number is what it must be.
-    pub(crate) fn shows(self, number: u64, outcome: &Outcome) -> bool {
+    /// Checks that an outcome on the version of this number is what it must be.
+    pub(crate) fn check(self, number: u64, outcome: &Outcome) -> Result<(), Failure> {
         let shown = self.shown(number);
         let Some(vector) = outcome.vectors.as_slice().first() else {
-            return false;
+            return Err(Failure::Vector);
         };
-        let ended = outcome.end == shown.end && outcome.turns == shown.turns;
-        ended && vector.entries.as_slice() == shown.entries
+        need(outcome.end == shown.end, Failure::End)?;
+        need(outcome.turns == shown.turns, Failure::Turns)?;
+        need(vector.entries.as_slice() == shown.entries, Failure::Entries)
     }
 
     /// The number of the version, if a run on it by so many workers shows what it must, and its gate was called with each piece: a
@@ -124,16 +126,14 @@ impl Program {
         number: u64,
         outcome: &Outcome,
         (gate, workers): (&Counting, usize),
-    ) -> Result<u64, u16> {
+    ) -> Answer {
         let shown = self.shown(number);
         let pieces = shown
             .turns
             .wrapping_mul(workers.min(shown.entries.len()) as u64);
-        if self.shows(number, outcome) && gate.count() == pieces {
-            Ok(number)
-        } else {
-            Err(0)
-        }
+        self.check(number, outcome)?;
+        need(gate.count() == pieces, Failure::Pieces)?;
+        Ok(number)
     }
 }
 

@@ -1,5 +1,6 @@
 //! Races of the search with a script, and one without a program.
 
+use crate::failure::{Answer, Failure, need};
 use crate::programs::{Program, TURNS};
 use plans::Plan;
 use races::{CommitReply, Race, RaceScript, VersionRun, race, race_script};
@@ -20,21 +21,25 @@ const REPLIES: [CommitReply; 4] = [
     CommitReply::Version(3),
 ];
 
-// Whether a run of a race shows the path of its version.
-fn is_of_its_version(run: &VersionRun) -> bool {
-    run.version <= 3 && Program::OnPaths.shows(run.version, &run.outcome)
+// Checks that a run of a race shows the path of its version.
+fn check_run(run: &VersionRun) -> Result<(), Failure> {
+    need(run.version <= 3, Failure::Version)?;
+    Program::OnPaths.check(run.version, &run.outcome)
 }
 
-// Whether a race is that of the script with so many programs, all the search.
-fn is_race(raced: &Race, programs: usize) -> bool {
+// Checks that a race is that of the script with so many programs, all the search.
+fn check_race(raced: &Race, programs: usize) -> Result<(), Failure> {
     for runs in raced.runs.as_slice() {
-        let late = runs.late.version == 3 && is_of_its_version(&runs.late);
-        if !late || !is_of_its_version(&runs.early) {
-            return false;
-        }
+        need(runs.late.version == 3, Failure::Version)?;
+        check_run(&runs.late)?;
+        check_run(&runs.early)?;
     }
-    let replies = raced.replies.as_slice() == REPLIES.as_slice();
-    raced.vertices == 4 && replies && raced.runs.len() == programs
+    need(raced.vertices == 4, Failure::Vertices)?;
+    need(
+        raced.replies.as_slice() == REPLIES.as_slice(),
+        Failure::Replies,
+    )?;
+    need(raced.runs.len() == programs, Failure::Programs)
 }
 
 /// How a race is answered: by 0 if it is what it must be.
@@ -44,14 +49,13 @@ pub(crate) fn run_race<R: Threads + Wait + Sync>(
     order: RaceScript,
     plans: &[&Plan],
     workers: usize,
-) -> Result<u64, u16> {
+) -> Answer {
     match race(rt, alloc, order, plans, workers, TURNS) {
-        Ok(raced) => if is_race(&raced, plans.len()) {
+        Ok(raced) => {
+            check_race(&raced, plans.len())?;
             Ok(0)
-        } else {
-            Err(0)
-        },
-        Err(error) => Err(error.number()),
+        }
+        Err(error) => Err(Failure::Refused(error.number())),
     }
 }
 

@@ -4,7 +4,8 @@
 //! With ample memory a test sees the answer alone. `bench/refused-growths` runs each again and again, and refuses one after
 //! another of the requests for memory that are made between the lines "asked" and "900" or "whole".
 
-use crate::calls::{Call, Table, wrong};
+use crate::calls::{Call, Table, check_table};
+use crate::failure::{Answer, Failure, REFUSED, need};
 use crate::programs::{Counting, Program, TURNS};
 use crate::racing::{RACE, run_race};
 use crate::running::planned;
@@ -44,37 +45,33 @@ fn run_on_six<R: Threads + Sync>(
     plan: &Plan,
     graph: &Flat,
     workers: usize,
-) -> Result<u64, u16> {
+) -> Answer {
     let gate = Counting::new();
     match run(rt, alloc, plan, graph, workers, TURNS, &gate) {
         Ok(outcome) => Program::OnSix.answer(0, &outcome, (&gate, workers)),
-        Err(error) => Err(error.number()),
+        Err(error) => Err(Failure::Refused(error.number())),
     }
 }
 
 // The plan of the search, be it at the second attempt.
-fn planned_again<R: Print>(rt: &R, alloc: Global) -> Option<Plan> {
-    if !ask(rt) {
-        return None;
+fn planned_again<R: Print>(rt: &R, alloc: Global) -> Result<Plan, Failure> {
+    let asked = ask(rt);
+    let first = planned(alloc, Program::OnPaths.text());
+    let is_refused = matches!(first, Err(Failure::NotCompiled(900)));
+    let told = tell(rt, is_refused);
+    need(asked.and(told).is_ok(), Failure::Print)?;
+    if is_refused {
+        return planned(alloc, Program::OnPaths.text());
     }
-    match compile(alloc, Program::OnPaths.text()) {
-        Ok(plan) => tell(rt, false).then_some(plan),
-        Err(error) => {
-            if error.number() == 900 && tell(rt, true) {
-                planned(alloc, Program::OnPaths.text())
-            } else {
-                None
-            }
-        }
-    }
+    first
 }
 
 #[test]
 fn a_compiling(rt: HostRuntime) -> Result<(), Fail> {
     let graph = six_vertices(rt.alloc())?;
     let ran = match planned_again(&rt, rt.alloc()) {
-        Some(plan) => run_on_six(&rt, rt.alloc(), &plan, &graph, 1),
-        None => Err(0),
+        Ok(plan) => run_on_six(&rt, rt.alloc(), &plan, &graph, 1),
+        Err(failure) => Err(failure),
     };
     drop(graph);
     assert_eq!(rt; ran, Ok(0));
@@ -87,15 +84,15 @@ fn a_run_by_two_workers(rt: HostRuntime) -> Result<(), Fail> {
     let plan = compile(rt.alloc(), Program::OnPaths.text())?;
     let asked = ask(&rt);
     let first = run_on_six(&rt, rt.alloc(), &plan, &graph, 2);
-    let told = tell(&rt, first == Err(900));
-    let ran = if first == Err(900) {
+    let told = tell(&rt, first == REFUSED);
+    let ran = if first == REFUSED {
         run_on_six(&rt, rt.alloc(), &plan, &graph, 2)
     } else {
         first
     };
     drop(plan);
     drop(graph);
-    assert!(rt; asked && told);
+    assert_eq!(rt; asked.and(told), Ok(()));
     assert_eq!(rt; ran, Ok(0));
     Ok(())
 }
@@ -117,7 +114,7 @@ const NEWEST: Table = Table {
 
 #[test]
 fn a_run_on_the_newest_version(rt: HostRuntime) -> Result<(), Fail> {
-    assert_eq!(rt; wrong(&rt, &NEWEST), [None; 2]);
+    assert_eq!(rt; check_table(&rt, &NEWEST), Ok(()));
     Ok(())
 }
 
@@ -128,14 +125,14 @@ fn a_race(rt: HostRuntime) -> Result<(), Fail> {
     let (order, again) = (race_script(alloc, RACE)?, race_script(alloc, RACE)?);
     let asked = ask(&rt);
     let first = run_race(&rt, alloc, order, &[&plan], 2);
-    let told = tell(&rt, first == Err(900));
-    let raced = if first == Err(900) {
+    let told = tell(&rt, first == REFUSED);
+    let raced = if first == REFUSED {
         run_race(&rt, alloc, again, &[&plan], 2)
     } else {
         first
     };
     drop(plan);
-    assert!(rt; asked && told);
+    assert_eq!(rt; asked.and(told), Ok(()));
     assert_eq!(rt; raced, Ok(0));
     Ok(())
 }

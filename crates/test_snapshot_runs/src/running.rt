@@ -1,6 +1,6 @@
-//! Runs of a program, each answered by the number of its version, by 0 where it does not show what it must, or by the number of
-//! its refusal.
+//! Runs of a program, each answered by the number of its version.
 
+use crate::failure::{Answer, Failure, REFUSED, need};
 use crate::programs::{Counting, Program};
 use compiled_runs::{RunBounds, run_text_on_latest};
 use compiler::compile;
@@ -11,9 +11,9 @@ use std::alloc::Global;
 use std::thread::Threads;
 use test_helpers::{ask, tell};
 
-/// The plan of a text, if it has one.
-pub(crate) fn planned(alloc: Global, text: &[u8]) -> Option<Plan> {
-    compile(alloc, text).ok()
+/// The plan of a text.
+pub(crate) fn planned(alloc: Global, text: &[u8]) -> Result<Plan, Failure> {
+    compile(alloc, text).map_err(|error| Failure::NotCompiled(error.number()))
 }
 
 /// A run of a plan on the newest version.
@@ -23,11 +23,11 @@ pub(crate) fn run_newest<J: Naming, R: Threads + Sync>(
     plan: &Plan,
     me: &mut Reader<J>,
     (program, workers): (Program, usize),
-) -> Result<u64, u16> {
+) -> Answer {
     let gate = Counting::new();
     match run_latest(rt, alloc, plan, me, workers, program.turns(), &gate) {
         Ok((number, outcome)) => program.answer(number, &outcome, (&gate, workers)),
-        Err(error) => Err(error.number()),
+        Err(error) => Err(Failure::Refused(error.number())),
     }
 }
 
@@ -37,11 +37,9 @@ pub(crate) fn run_program<J: Naming, R: Threads + Sync>(
     alloc: Global,
     me: &mut Reader<J>,
     (program, workers): (Program, usize),
-) -> Result<u64, u16> {
-    match planned(alloc, program.text()) {
-        Some(plan) => run_newest(rt, alloc, &plan, me, (program, workers)),
-        None => Err(0),
-    }
+) -> Answer {
+    let plan = planned(alloc, program.text())?;
+    run_newest(rt, alloc, &plan, me, (program, workers))
 }
 
 /// A run of a text on the newest version.
@@ -50,7 +48,7 @@ pub(crate) fn run_text<J: Naming, R: Threads + Sync>(
     alloc: Global,
     me: &mut Reader<J>,
     (program, workers): (Program, usize),
-) -> Result<u64, u16> {
+) -> Answer {
     let gate = Counting::new();
     let bounds = RunBounds {
         workers,
@@ -58,7 +56,7 @@ pub(crate) fn run_text<J: Naming, R: Threads + Sync>(
     };
     match run_text_on_latest(rt, alloc, program.text(), me, bounds, &gate) {
         Ok((number, outcome)) => program.answer(number, &outcome, (&gate, workers)),
-        Err(error) => Err(error.number()),
+        Err(error) => Err(Failure::Refused(error.number())),
     }
 }
 
@@ -68,15 +66,13 @@ pub(crate) fn run_on_held<J: Naming, R: Threads + Sync>(
     alloc: Global,
     held: &Held<J>,
     (program, workers): (Program, usize),
-) -> Result<u64, u16> {
-    let Some(plan) = planned(alloc, program.text()) else {
-        return Err(0);
-    };
+) -> Answer {
+    let plan = planned(alloc, program.text())?;
     let gate = Counting::new();
     let number = held.snapshot().number;
     match run_held(rt, alloc, &plan, held, workers, program.turns(), &gate) {
         Ok(outcome) => program.answer(number, &outcome, (&gate, workers)),
-        Err(error) => Err(error.number()),
+        Err(error) => Err(Failure::Refused(error.number())),
     }
 }
 
@@ -87,30 +83,26 @@ pub(crate) fn run_asked<J: Naming, R: Threads + Print + Sync>(
     alloc: Global,
     me: &mut Reader<J>,
     run: (Program, usize),
-) -> Result<u64, u16> {
-    let Some(plan) = planned(alloc, run.0.text()) else {
-        return Err(0);
-    };
+) -> Answer {
+    let plan = planned(alloc, run.0.text())?;
     let asked = ask(rt);
     let first = run_newest(rt, alloc, &plan, me, run);
-    let told = tell(rt, first == Err(900));
+    let told = tell(rt, first == REFUSED);
     let newest = newest(me);
-    let ran = if first == Err(900) {
+    let ran = if first == REFUSED {
         run_newest(rt, alloc, &plan, me, run)
     } else {
         first
     };
-    if asked && told && ran == newest {
-        ran
-    } else {
-        Err(0)
-    }
+    need(asked.and(told).is_ok(), Failure::Print)?;
+    need(ran.is_err() || ran == newest, Failure::Version)?;
+    ran
 }
 
 // The number of the newest version.
-fn newest<J: Naming>(me: &mut Reader<J>) -> Result<u64, u16> {
+fn newest<J: Naming>(me: &mut Reader<J>) -> Answer {
     match me.latest() {
         Ok(snapshot) => Ok(snapshot.number),
-        Err(error) => Err(error.number()),
+        Err(error) => Err(Failure::Refused(error.number())),
     }
 }

@@ -3,6 +3,7 @@ use c_tree::CTree;
 use std::alloc::Global;
 use std::test::Fail;
 use tail_codec::Tail;
+use test_helpers::{Checked, check};
 
 // A prefix's bytes, and heads with their weights and their tails' bytes.
 type Cut = (&'static [u8], &'static [(u32, i64, &'static [u8])]);
@@ -37,29 +38,41 @@ const CUTS: [(u32, &[(u32, i64)], Cut); 6] = [
 fn cuts_entries(rt: HostRuntime) -> Result<(), Fail> {
     for (chunk_size, pairs, cut) in &CUTS {
         let set = CTree::from_sorted(rt.alloc(), *chunk_size, pairs)?;
-        assert!(rt; is_cut_so(&set, pairs, *cut), "{pairs:?} by {chunk_size}");
+        assert_eq!(rt;
+            check_cut(&set, pairs, *cut),
+            Ok(()),
+            "{pairs:?} by {chunk_size}"
+        );
     }
     Ok(())
 }
 
-// Whether the set has these entries and this cut.
-fn is_cut_so(set: &CTree, pairs: &[(u32, i64)], (prefix, chunks): Cut) -> bool {
-    let same = set.prefix().bytes() == prefix && set.iter().eq(pairs.iter().copied());
-    same && are_heads(set, chunks)
+// Checks that the set has these entries and this cut.
+fn check_cut(set: &CTree, pairs: &[(u32, i64)], (prefix, chunks): Cut) -> Checked {
+    check(set.prefix().bytes() == prefix, "the bytes of the prefix")?;
+    check(set.iter().eq(pairs.iter().copied()), "the entries")?;
+    check_heads(set, chunks)
 }
 
-// Whether these are the heads of the set, with their weights and their tails' bytes.
-fn are_heads(set: &CTree, chunks: &[(u32, i64, &[u8])]) -> bool {
+// Checks that these are the heads of the set, with their weights and their tails' bytes.
+fn check_heads(set: &CTree, chunks: &[(u32, i64, &[u8])]) -> Checked {
     let mut heads = set.heads();
-    let mut same = true;
     for chunk in chunks {
-        same = same && is_chunk_so(heads.next(), *chunk);
+        check_chunk(heads.next(), *chunk)?;
     }
-    same && heads.next().is_none()
+    check(heads.next().is_none(), "the end of the heads")
 }
 
-fn is_chunk_so(found: Option<(u32, i64, &Tail)>, (head, weight, bytes): (u32, i64, &[u8])) -> bool {
-    found.is_some_and(|(other, own, tail)| other == head && own == weight && tail.bytes() == bytes)
+fn check_chunk(
+    found: Option<(u32, i64, &Tail)>,
+    (head, weight, bytes): (u32, i64, &[u8]),
+) -> Checked {
+    let Some((key, own, tail)) = found else {
+        return Err("how many heads there are");
+    };
+    check(key == head, "a head")?;
+    check(own == weight, "the weight of a head")?;
+    check(tail.bytes() == bytes, "the bytes of a tail")
 }
 
 // Keys, and their weights in the set of 2 with 9 and 3 with 1.
@@ -75,12 +88,14 @@ const LOOK_UPS: [(u32, Option<i64>); 5] = [
 fn looks_keys_up(rt: HostRuntime) -> Result<(), Fail> {
     let set = CTree::from_sorted(rt.alloc(), 4, &[(2, 9), (3, 1)])?;
     for (key, weight) in LOOK_UPS {
-        assert!(rt;
-            set.get(key) == weight && set.contains(key) == weight.is_some(),
-            "{key}"
+        assert_eq!(rt; set.get(key), weight, "the weight of {key}");
+        assert_eq!(rt;
+            set.contains(key),
+            weight.is_some(),
+            "whether {key} is there"
         );
         let cut = set.view().cut(rt.alloc(), key)?;
-        assert!(rt; cut.found == weight, "a cut at {key}");
+        assert_eq!(rt; cut.found, weight, "a cut at {key}");
     }
     Ok(())
 }
@@ -116,19 +131,19 @@ fn fills_blocks(rt: HostRuntime) -> Result<(), Fail> {
     let mut entries = set.iter();
     let (mut keys, mut weights) = ([0; 4], [0; 4]);
     let first = entries.fill_weighted(&mut keys, &mut weights);
-    assert!(rt;
-        first == 4 && keys == [1, 2, 3, 4] && weights == [-1, 7, 5, 1],
+    assert_eq!(rt;
+        (first, keys, weights),
+        (4, [1, 2, 3, 4], [-1, 7, 5, 1]),
         "whole blocks"
     );
     let last = entries.fill_weighted(&mut keys, &mut weights);
-    assert!(rt;
-        last == 2 && keys == [5, 6, 3, 4] && weights == [300, 1, 5, 1],
+    assert_eq!(rt;
+        (last, keys, weights),
+        (2, [5, 6, 3, 4], [300, 1, 5, 1]),
         "the last entries"
     );
-    assert!(rt;
-        set.iter().fill(&mut keys) == 4 && keys == [1, 2, 3, 4],
-        "keys alone"
-    );
+    let alone = set.iter().fill(&mut keys);
+    assert_eq!(rt; (alone, keys), (4, [1, 2, 3, 4]), "keys alone");
     Ok(())
 }
 

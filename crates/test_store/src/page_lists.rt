@@ -4,6 +4,7 @@ use edge_updates::{EdgeUpdate, Updates};
 use pages::{EntryColumns, MAX_LONG, MAX_PACKED, Neighbours, PackedList, Page, merge};
 use std::alloc::Global;
 use std::test::Fail;
+use test_helpers::{Checked, check};
 
 const MIXED: [(u32, i64); 9] = [
     (1, 1),
@@ -39,12 +40,17 @@ const LISTS: [&'static [(u32, i64)]; 12] = [
 fn lists_are_read_as_they_are_written(rt: HostRuntime) -> Result<(), Fail> {
     for list in &LISTS {
         let page = page_of(rt.alloc(), list)?;
-        assert!(rt; has_all(&page.list(VERTEX), list), "{list:?}");
-        assert!(rt;
-            page.degree(VERTEX) as usize == list.len() && page.len() == 1,
-            "{list:?}"
+        assert_eq!(rt; check_list(&page.list(VERTEX), list), Ok(()), "{list:?}");
+        assert_eq!(rt;
+            page.degree(VERTEX) as usize,
+            list.len(),
+            "the degree of {list:?}"
         );
-        assert!(rt; page.list(VERTEX + 1).is_empty(), "{list:?}");
+        assert_eq!(rt; page.len(), 1, "the page of {list:?}");
+        assert!(rt;
+            page.list(VERTEX + 1).is_empty(),
+            "the vertex after {list:?}"
+        );
     }
     Ok(())
 }
@@ -54,8 +60,16 @@ fn blocks_have_both_columns(rt: HostRuntime) -> Result<(), Fail> {
     for list in &LISTS {
         let page = page_of(rt.alloc(), list)?;
         for room in 1..5usize {
-            assert!(rt; fills_up(&page, list, room), "{list:?} {room}");
-            assert!(rt; fills_down(&page, list, room), "{list:?} {room}");
+            assert_eq!(rt;
+                check_up(&page, list, room),
+                Ok(()),
+                "{list:?} upward by {room}"
+            );
+            assert_eq!(rt;
+                check_down(&page, list, room),
+                Ok(()),
+                "{list:?} downward by {room}"
+            );
         }
     }
     Ok(())
@@ -100,9 +114,9 @@ fn lists_of_their_own_are_read_as_they_are_written(rt: HostRuntime) -> Result<()
         for weight in &WEIGHTS {
             let columns = spread(rt.alloc(), *count, *step, *weight)?;
             let (keys, weights) = columns.columns();
-            assert!(rt; keys.len() == *count as usize, "{count} {step} {weight}");
-            let same = is_read_back(rt.alloc(), keys, weights)?;
-            assert!(rt; same, "{count} {step} {weight}");
+            assert_eq!(rt; keys.len(), *count as usize, "{count} {step} {weight}");
+            let read = check_read(rt.alloc(), keys, weights)?;
+            assert_eq!(rt; read, Ok(()), "{count} {step} {weight}");
         }
     }
     Ok(())
@@ -120,54 +134,83 @@ fn spread(alloc: Global, count: u32, step: u32, weight: i64) -> Result<EntryColu
     Ok(columns)
 }
 
-// Whether a list of these columns gives them again, by each way of reading it.
-fn is_read_back(alloc: Global, keys: &[u32], weights: &[i64]) -> Result<bool, Fail> {
+// Checks that a list of these columns gives them again, by each way of reading it.
+fn check_read(alloc: Global, keys: &[u32], weights: &[i64]) -> Result<Checked, Fail> {
     if keys.is_empty() || keys.len() > MAX_LONG || !ascends(None, keys) {
-        return Ok(false);
+        return Ok(Err("the order of the keys, and how many there are"));
     }
     let list = PackedList::new(alloc, keys, weights)?;
-    let same = list.len() == keys.len() && has_columns(&list.lend(), keys, weights);
-    Ok(same && comes_up(list.lend(), keys, weights) && comes_down(list.lend(), keys, weights))
+    Ok(
+        check(list.len() == keys.len(), "the length of the list")
+            .and(check_columns(&list.lend(), keys, weights))
+            .and(check_columns_up(list.lend(), keys, weights))
+            .and(check_columns_down(list.lend(), keys, weights)),
+    )
 }
 
-fn has_columns(list: &Neighbours<'_>, keys: &[u32], weights: &[i64]) -> bool {
-    let mut same = list.len() == keys.len();
+fn check_columns(list: &Neighbours<'_>, keys: &[u32], weights: &[i64]) -> Checked {
+    check(list.len() == keys.len(), "the length")?;
     for index in 0..keys.len().min(list.len()) {
         let (neighbour, weight) = (keys[index], weight_of(weights, index));
-        same = same && list.neighbour(index) == neighbour && list.weight(index) == weight;
-        same = same && list.get(neighbour) == Some(weight);
+        check(
+            list.neighbour(index) == neighbour,
+            "a neighbour by its index",
+        )?;
+        check(list.weight(index) == weight, "a weight by its index")?;
+        check(
+            list.get(neighbour) == Some(weight),
+            "the weight of a neighbour",
+        )?;
     }
-    same && list.get(4).is_none() && list.get(4294967295).is_none()
+    check(list.get(4).is_none(), "a vertex below the neighbours")?;
+    check(
+        list.get(4294967295).is_none(),
+        "a vertex above the neighbours",
+    )
 }
 
-fn comes_up(list: Neighbours<'_>, keys: &[u32], weights: &[i64]) -> bool {
+fn check_columns_up(list: Neighbours<'_>, keys: &[u32], weights: &[i64]) -> Checked {
     let mut walk = list.ascending();
     let (mut block, mut column) = ([0u32; 100], [0i64; 100]);
-    let (mut read, mut same) = (0usize, true);
+    let mut read = 0usize;
     for _ in 0..22 {
         let filled = walk.fill_weighted(&mut block, &mut column);
         for position in 0..filled.min(100) {
-            same = same && keys.get(read) == Some(&block[position]);
-            same = same && weight_of(weights, read) == column[position];
+            check(
+                keys.get(read) == Some(&block[position]),
+                "a neighbour upward",
+            )?;
+            check(
+                weight_of(weights, read) == column[position],
+                "a weight upward",
+            )?;
             read = read.saturating_add(1);
         }
     }
-    same && read == keys.len() && walk.is_empty()
+    check(read == keys.len(), "how many neighbours come upward")?;
+    check(walk.is_empty(), "the end of the walk upward")
 }
 
-fn comes_down(list: Neighbours<'_>, keys: &[u32], weights: &[i64]) -> bool {
+fn check_columns_down(list: Neighbours<'_>, keys: &[u32], weights: &[i64]) -> Checked {
     let mut walk = list.descending();
     let (mut block, mut column) = ([0u32; 100], [0i64; 100]);
-    let (mut left, mut same) = (keys.len(), true);
+    let mut left = keys.len();
     for _ in 0..22 {
         let filled = walk.fill_weighted(&mut block, &mut column);
         for position in 0..filled.min(100) {
             left = left.saturating_sub(1);
-            same = same && keys.get(left) == Some(&block[position]);
-            same = same && weight_of(weights, left) == column[position];
+            check(
+                keys.get(left) == Some(&block[position]),
+                "a neighbour downward",
+            )?;
+            check(
+                weight_of(weights, left) == column[position],
+                "a weight downward",
+            )?;
         }
     }
-    same && left == 0 && walk.is_empty()
+    check(left == 0, "how many neighbours come downward")?;
+    check(walk.is_empty(), "the end of the walk downward")
 }
 
 fn weight_of(weights: &[i64], index: usize) -> i64 {
@@ -180,11 +223,24 @@ fn an_added_edge_that_is_there_gets_the_new_weight(rt: HostRuntime) -> Result<()
     let page = updated(rt.alloc(), &page, (4, true), &[])?;
     let mut expected = MIXED;
     expected[3] = (4, 1);
-    assert!(rt; has_all(&page.list(VERTEX), &expected));
+    assert_eq!(rt;
+        check_list(&page.list(VERTEX), &expected),
+        Ok(()),
+        "after the addition"
+    );
     let page = updated(rt.alloc(), &page, (9, false), &[-7])?;
-    assert!(rt; has_all(&page.list(VERTEX), &expected[..8]));
+    assert_eq!(rt;
+        check_list(&page.list(VERTEX), &expected[..8]),
+        Ok(()),
+        "after the removal"
+    );
     let page = updated(rt.alloc(), &page, (0, true), &[-7])?;
-    assert!(rt; page.degree(VERTEX) == 9 && page.list(VERTEX).get(0) == Some(-7));
+    assert_eq!(rt; page.degree(VERTEX), 9, "the degree after another addition");
+    assert_eq!(rt;
+        page.list(VERTEX).get(0),
+        Some(-7),
+        "the weight after another addition"
+    );
     Ok(())
 }
 
@@ -205,33 +261,43 @@ fn updated(
     page_of_columns(alloc, &after)
 }
 
-// Whether walks upward and downward fill blocks of n with the list and its weights.
-fn fills_up(page: &Page, list: &[(u32, i64)], room: usize) -> bool {
+// Checks that walks upward and downward fill blocks of n with the list and its weights.
+fn check_up(page: &Page, list: &[(u32, i64)], room: usize) -> Checked {
     let mut walk = page.list(VERTEX).ascending();
     let (mut keys, mut weights) = ([7u32; 4], [7i64; 4]);
-    let (mut read, mut same) = (0usize, true);
+    let mut read = 0usize;
     for _ in 0..10 {
         let filled = walk.fill_weighted(&mut keys[..room.min(4)], &mut weights);
         for position in 0..filled.min(4) {
-            same = same && list.get(read) == Some(&(keys[position], weights[position]));
+            let found = (keys[position], weights[position]);
+            check(
+                list.get(read) == Some(&found),
+                "a neighbour with its weight",
+            )?;
             read = read.saturating_add(1);
         }
     }
-    same && read == list.len() && walk.is_empty()
+    check(read == list.len(), "how many neighbours come")?;
+    check(walk.is_empty(), "the end of the walk")
 }
 
-fn fills_down(page: &Page, list: &[(u32, i64)], room: usize) -> bool {
+fn check_down(page: &Page, list: &[(u32, i64)], room: usize) -> Checked {
     let mut walk = page.list(VERTEX).descending();
     let (mut keys, mut weights) = ([7u32; 4], [7i64; 4]);
-    let (mut left, mut same) = (list.len(), true);
+    let mut left = list.len();
     for _ in 0..10 {
         let filled = walk.fill_weighted(&mut keys, &mut weights[..room.min(4)]);
         for position in 0..filled.min(4) {
             left = left.saturating_sub(1);
-            same = same && list.get(left) == Some(&(keys[position], weights[position]));
+            let found = (keys[position], weights[position]);
+            check(
+                list.get(left) == Some(&found),
+                "a neighbour with its weight",
+            )?;
         }
     }
-    same && left == 0 && walk.is_empty()
+    check(left == 0, "how many neighbours come")?;
+    check(walk.is_empty(), "the end of the walk")
 }
 
 // A page of one vertex.
@@ -257,17 +323,25 @@ fn entries(alloc: Global, list: &[(u32, i64)]) -> Result<EntryColumns, Fail> {
     Ok(columns)
 }
 
-// Whether a list has these neighbours with these weights, by each way of reading it.
-fn has_all(list: &Neighbours<'_>, expected: &[(u32, i64)]) -> bool {
-    let mut same = list.len() == expected.len();
+// Checks that a list has these neighbours with these weights, by each way of reading it.
+fn check_list(list: &Neighbours<'_>, expected: &[(u32, i64)]) -> Checked {
+    check(list.len() == expected.len(), "the length")?;
     for index in 0..expected.len().min(list.len()) {
         let (neighbour, weight) = expected[index];
-        same = same && list.neighbour(index) == neighbour && list.weight(index) == weight;
-        same = same && list.get(neighbour) == Some(weight);
+        check(
+            list.neighbour(index) == neighbour,
+            "a neighbour by its index",
+        )?;
+        check(list.weight(index) == weight, "a weight by its index")?;
+        check(
+            list.get(neighbour) == Some(weight),
+            "the weight of a neighbour",
+        )?;
     }
-    same && has_missing(list, expected)
+    check(has_17(list, expected), "whether 17 is a neighbour")
 }
 
-fn has_missing(list: &Neighbours<'_>, expected: &[(u32, i64)]) -> bool {
+// Whether a list has vertex 17 if it is expected, and only then.
+fn has_17(list: &Neighbours<'_>, expected: &[(u32, i64)]) -> bool {
     expected.iter().any(|(key, _)| *key == 17) == list.get(17).is_some()
 }

@@ -5,6 +5,7 @@ use std::test::Fail;
 use tail_codec::{
     Entries, EntryList, MapOperation, Tail, TailError, append_entry, cut_entries, merge_entries,
 };
+use test_helpers::{Checked, check};
 
 // A base, entries above it, and the bytes that spell them.
 type Spelling = (Option<u32>, &'static [(u32, i64)], &'static [u8]);
@@ -49,16 +50,24 @@ const SPELLINGS: [Spelling; 18] = [
 #[test]
 fn spells_lists(rt: HostRuntime) -> Result<(), Fail> {
     for spelling in &SPELLINGS {
-        assert!(rt; is_spelled(rt.alloc(), *spelling)?, "{spelling:?}");
+        assert_eq!(rt;
+            check_spelling(rt.alloc(), *spelling)?,
+            Ok(()),
+            "{spelling:?}"
+        );
     }
     Ok(())
 }
 
-// Whether the entries have these bytes, and the bytes these entries.
-fn is_spelled(alloc: Global, (base, list, bytes): Spelling) -> Result<bool, Fail> {
-    let made = Tail::encode(alloc, base, list)?.bytes() == bytes;
+// Checks that the entries have these bytes, and the bytes these entries.
+fn check_spelling(alloc: Global, (base, list, bytes): Spelling) -> Result<Checked, Fail> {
+    let made = Tail::encode(alloc, base, list)?;
     let read = Tail::from_bytes(alloc, base, bytes)?.share()?;
-    Ok(made && read.iter().eq(list.iter().copied()))
+    let are_read = read.iter().eq(list.iter().copied());
+    Ok(check(made.bytes() == bytes, "the bytes of the entries").and(check(
+        are_read,
+        "the entries of the bytes",
+    )))
 }
 
 // A base, and bytes that spell no list over it.
@@ -110,8 +119,9 @@ const COUNTS: [(usize, u32); 3] = [(0, 1), (1, 64), (2, 20_352)];
 #[test]
 fn reads_so_many_strings(rt: HostRuntime) -> Result<(), Fail> {
     for (len, count) in COUNTS {
-        assert!(rt;
-            spelling_count(rt.alloc(), len) == count,
+        assert_eq!(rt;
+            spelling_count(rt.alloc(), len),
+            count,
             "strings of {len} bytes"
         );
     }
@@ -173,29 +183,48 @@ const CUTS: [Cut; 8] = [
 #[test]
 fn cuts_and_joins(rt: HostRuntime) -> Result<(), Fail> {
     for cut in &CUTS {
-        assert!(rt; entries_are_cut(rt.alloc(), *cut)?, "entries: {cut:?}");
-        assert!(rt; a_tail_is_cut(rt.alloc(), *cut)?, "a tail: {cut:?}");
+        assert_eq!(rt;
+            check_cut_entries(rt.alloc(), *cut)?,
+            Ok(()),
+            "entries: {cut:?}"
+        );
+        assert_eq!(rt;
+            check_cut_tail(rt.alloc(), *cut)?,
+            Ok(()),
+            "a tail: {cut:?}"
+        );
     }
     Ok(())
 }
 
-// Whether entries in columns are cut so.
-fn entries_are_cut(alloc: Global, (list, key, below, weight, above): Cut) -> Result<bool, Fail> {
+// Checks that entries in columns are cut so.
+fn check_cut_entries(
+    alloc: Global,
+    (list, key, below, weight, above): Cut,
+) -> Result<Checked, Fail> {
     let entries = EntryList::from_pairs(alloc, list)?;
     let entries = entries.lent();
     if !ascends(None, entries.keys()) {
-        return Ok(false);
+        return Ok(Err("the order of the keys"));
     }
     let (front, found, back) = cut_entries(&entries, key);
-    Ok(are_entries(&front, below) && found == weight && are_entries(&back, above))
+    Ok(
+        check(are_entries(&front, below), "the entries below the key")
+            .and(check(found == weight, "the weight of the key"))
+            .and(check(are_entries(&back, above), "the entries above the key")),
+    )
 }
 
-// Whether a tail is cut so.
-fn a_tail_is_cut(alloc: Global, (list, key, below, weight, above): Cut) -> Result<bool, Fail> {
+// Checks that a tail is cut so.
+fn check_cut_tail(alloc: Global, (list, key, below, weight, above): Cut) -> Result<Checked, Fail> {
     let cut = Tail::encode(alloc, None, list)?.cut(alloc, key)?;
-    let (front, back) = (cut.below.iter(), cut.above.iter());
-    let sides = front.eq(below.iter().copied()) && back.eq(above.iter().copied());
-    Ok(sides && cut.found == weight)
+    let is_front = cut.below.iter().eq(below.iter().copied());
+    let is_back = cut.above.iter().eq(above.iter().copied());
+    Ok(
+        check(is_front, "the entries below the key")
+            .and(check(cut.found == weight, "the weight of the key"))
+            .and(check(is_back, "the entries above the key")),
+    )
 }
 
 // Whether entries in columns are these.
@@ -230,20 +259,20 @@ const MOVES: [Move; 4] = [
 #[test]
 fn stands_over_another_base(rt: HostRuntime) -> Result<(), Fail> {
     for row in &MOVES {
-        assert!(rt; is_moved(rt.alloc(), *row)?, "{row:?}");
+        assert_eq!(rt; check_moved(rt.alloc(), *row)?, Ok(()), "{row:?}");
     }
     Ok(())
 }
 
-// Whether a tail of these entries has these bytes over the other base.
-fn is_moved(alloc: Global, (base, other, list, bytes): Move) -> Result<bool, Fail> {
+// Checks that a tail of these entries has these bytes over the other base.
+fn check_moved(alloc: Global, (base, other, list, bytes): Move) -> Result<Checked, Fail> {
     let tail = Tail::encode(alloc, base, list)?;
     let entries = tail.entries(alloc)?;
     if !ascends(other, entries.lent().keys()) {
-        return Ok(false);
+        return Ok(Err("the order of the keys"));
     }
     let moved = tail.over(alloc, other)?;
-    Ok(moved.base() == other && moved.bytes() == bytes)
+    Ok(check(moved.base() == other, "the base").and(check(moved.bytes() == bytes, "the bytes")))
 }
 
 #[test]
@@ -251,14 +280,10 @@ fn fills_blocks_with_keys(rt: HostRuntime) -> Result<(), Fail> {
     let tail = Tail::encode(rt.alloc(), Some(4), &[(5, 2), (6, 1), (9, -1)])?;
     let mut entries = tail.iter();
     let mut block = [0; 2];
-    assert!(rt;
-        entries.fill(&mut block) == 2 && block == [5, 6],
-        "a whole block"
-    );
-    assert!(rt;
-        entries.fill(&mut block) == 1 && block == [9, 6],
-        "the last key"
-    );
+    let filled = entries.fill(&mut block);
+    assert_eq!(rt; (filled, block), (2, [5, 6]), "a whole block");
+    let filled = entries.fill(&mut block);
+    assert_eq!(rt; (filled, block), (1, [9, 6]), "the last key");
     Ok(())
 }
 
@@ -267,12 +292,16 @@ fn fills_blocks_with_entries(rt: HostRuntime) -> Result<(), Fail> {
     let tail = Tail::encode(rt.alloc(), Some(4), &[(5, 2), (6, 1), (9, -1)])?;
     let mut entries = tail.iter();
     let (mut keys, mut weights) = ([0; 2], [0; 2]);
-    assert!(rt;
-        entries.fill_weighted(&mut keys, &mut weights) == 2 && keys == [5, 6] && weights == [2, 1],
+    let filled = entries.fill_weighted(&mut keys, &mut weights);
+    assert_eq!(rt;
+        (filled, keys, weights),
+        (2, [5, 6], [2, 1]),
         "two whole blocks"
     );
-    assert!(rt;
-        entries.fill_weighted(&mut keys, &mut weights) == 1 && keys == [9, 6] && weights == [-1, 1],
+    let filled = entries.fill_weighted(&mut keys, &mut weights);
+    assert_eq!(rt;
+        (filled, keys, weights),
+        (1, [9, 6], [-1, 1]),
         "the last entry"
     );
     Ok(())
@@ -335,19 +364,23 @@ const MERGES: [Merge; 8] = [
 #[test]
 fn merges_entries(rt: HostRuntime) -> Result<(), Fail> {
     for (position, merge) in MERGES.iter().enumerate() {
-        assert!(rt; is_merged(rt.alloc(), *merge)?, "merge {position}");
+        assert_eq!(rt;
+            check_merged(rt.alloc(), *merge)?,
+            Ok(()),
+            "merge {position}"
+        );
     }
     Ok(())
 }
 
-// Whether the operation makes these entries of the two maps.
-fn is_merged(alloc: Global, (operation, first, second, both): Merge) -> Result<bool, Fail> {
+// Checks that the operation makes these entries of the two maps.
+fn check_merged(alloc: Global, (operation, first, second, both): Merge) -> Result<Checked, Fail> {
     let first = EntryList::from_pairs(alloc, first)?;
     let second = EntryList::from_pairs(alloc, second)?;
     let (first, second) = (first.lent(), second.lent());
     if !ascends(None, first.keys()) || !ascends(None, second.keys()) {
-        return Ok(false);
+        return Ok(Err("the order of the keys"));
     }
     let merged = merge_entries(alloc, operation, &first, &second)?;
-    Ok(are_entries(&merged.lent(), both))
+    Ok(check(are_entries(&merged.lent(), both), "the entries"))
 }

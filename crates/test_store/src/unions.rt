@@ -5,6 +5,7 @@ use set_ops::{Quiet, difference, difference_forked, insert_all, remove_all, unio
 use std::alloc::Global;
 use std::test::Fail;
 use tail_codec::{Entries, EntryList, MapOperation, merge_entries};
+use test_helpers::{Checked, check};
 
 // Keys and weights of a set: from, step, count, and the weight of the first key, which grows by 1 at each
 // key.
@@ -32,14 +33,10 @@ fn unites_and_subtracts(rt: HostRuntime) -> Result<(), Fail> {
             union(rt.alloc(), &pair.first, &pair.second)?,
             difference(rt.alloc(), &pair.first, &pair.second)?,
         );
-        assert!(rt;
-            pair.is(rt.alloc(), MapOperation::Union, &union)?,
-            "union {first:?}"
-        );
-        assert!(rt;
-            pair.is(rt.alloc(), MapOperation::Difference, &rest)?,
-            "difference {first:?}"
-        );
+        let checked = pair.check(rt.alloc(), MapOperation::Union, &union)?;
+        assert_eq!(rt; checked, Ok(()), "union {first:?}");
+        let checked = pair.check(rt.alloc(), MapOperation::Difference, &rest)?;
+        assert_eq!(rt; checked, Ok(()), "difference {first:?}");
     }
     Ok(())
 }
@@ -52,14 +49,10 @@ fn unites_and_subtracts_on_two_threads(rt: HostRuntime) -> Result<(), Fail> {
             union_forked(&rt, rt.alloc(), &pair.first, &pair.second, 2, &Quiet)?,
             difference_forked(&rt, rt.alloc(), &pair.first, &pair.second, 2, &Quiet)?,
         );
-        assert!(rt;
-            pair.is(rt.alloc(), MapOperation::Union, &union)?,
-            "union {first:?}"
-        );
-        assert!(rt;
-            pair.is(rt.alloc(), MapOperation::Difference, &rest)?,
-            "difference {first:?}"
-        );
+        let checked = pair.check(rt.alloc(), MapOperation::Union, &union)?;
+        assert_eq!(rt; checked, Ok(()), "union {first:?}");
+        let checked = pair.check(rt.alloc(), MapOperation::Difference, &rest)?;
+        assert_eq!(rt; checked, Ok(()), "difference {first:?}");
     }
     Ok(())
 }
@@ -73,14 +66,10 @@ fn inserts_and_removes(rt: HostRuntime) -> Result<(), Fail> {
             insert_all(rt.alloc(), &pair.first, &list.lent())?,
             remove_all(rt.alloc(), &pair.first, list.lent().keys())?,
         );
-        assert!(rt;
-            pair.is(rt.alloc(), MapOperation::Union, &more)?,
-            "inserted {first:?}"
-        );
-        assert!(rt;
-            pair.is(rt.alloc(), MapOperation::Difference, &rest)?,
-            "removed {first:?}"
-        );
+        let checked = pair.check(rt.alloc(), MapOperation::Union, &more)?;
+        assert_eq!(rt; checked, Ok(()), "inserted {first:?}");
+        let checked = pair.check(rt.alloc(), MapOperation::Difference, &rest)?;
+        assert_eq!(rt; checked, Ok(()), "removed {first:?}");
     }
     Ok(())
 }
@@ -106,18 +95,21 @@ impl Pair {
         })
     }
 
-    // Whether a set is what the operation makes of the two.
-    fn is(&self, alloc: Global, operation: MapOperation, set: &CTree) -> Result<bool, Fail> {
+    // Checks that a set is what the operation makes of the two.
+    fn check(&self, alloc: Global, operation: MapOperation, set: &CTree) -> Result<Checked, Fail> {
         let first = EntryList::from_pairs(alloc, &self.first_entries)?;
         let second = EntryList::from_pairs(alloc, &self.second_entries)?;
         let (first, second) = (first.lent(), second.lent());
         if !ascends(None, first.keys()) || !ascends(None, second.keys()) {
-            return Ok(false);
+            return Ok(Err("the order of the keys"));
         }
         let list = merge_entries(alloc, operation, &first, &second)?;
         let entries = set.view().entries(alloc)?;
         let entries = entries.lent();
-        Ok(are_same(&list.lent(), &entries) && set.len() == entries.len())
+        Ok(check(are_same(&list.lent(), &entries), "the entries").and(check(
+            set.len() == entries.len(),
+            "the length",
+        )))
     }
 }
 

@@ -10,6 +10,7 @@ use Rattle.std.proofs.Crossing.{crosses, sync as heap_sync}
 use Rattle.shared_graph.specs.declared.naming.Naming as naming
 use Rattle.shared_graph.proofs.Crossing.{reader_send, graph_shared}
 use Rattle.test_shared_graph.specs.contracts.seats.Seat as seat
+use Rattle.test_shared_graph.proofs.failure.Failure.TheSendSync.{the_send as failure_send}
 use Rattle.test_shared_graph.proofs.seats.Role.TheSendSync.{the_send as role_send}
 use denote.Exit.{no}
 use denote.Param.{param}
@@ -20,7 +21,7 @@ use Rattle.test_shared_graph.proofs.seats.act_all.Goals as goal
 module _ (J : RattleType) (g : naming.Ghosts J.Denot) where
   pub seat_send : IsSend (seat.the_row J g)
   seat_send = declared_send (seat.the_type J g)
-      (reader_send J g, (search (sendable, crosses, role_send) depth 20, (search (sendable, crosses) depth 20, tt)))
+      (reader_send J g, (search (sendable, crosses, role_send) depth 20, (search (sendable, crosses, failure_send) depth 20, tt)))
 
 -- threads share a closure that takes three values
 pub three_sync : (name : Sym) (A B C : RattleType) → IsSync A → IsSync B → IsSync C → IsSync (TupleAt name (A ∷ B ∷ C ∷ []))

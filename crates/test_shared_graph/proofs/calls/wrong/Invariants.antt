@@ -1,5 +1,0 @@
-use Rattle.test_shared_graph.proofs.calls.wrong.Given as goal
-
--- the graph that was just opened
-abbrev pub ghosts-opened : goal.ghosts-opened
-ghosts-opened g a = record { book = a.opening; vertices = a.vertices; room = a.room }
