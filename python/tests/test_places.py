@@ -2,6 +2,7 @@
 from __future__ import annotations
 
 import re
+import subprocess
 from pathlib import Path
 
 import pytest
@@ -48,6 +49,22 @@ def test_refusals_of_examples() -> None:
     for name, number, offset, text in found:
         said = places.refusal_text(f"refused/{name}", (REFUSED / name).read_bytes(), int(number), int(offset))
         assert said == text, name
+
+
+@pytest.mark.parametrize(
+    ("reply", "says"),
+    [
+        ("-: refused 211 at 0", "211: the token at K is unexpected"),
+        ("missing: refused 211 at 0", "missing: No such file"),
+        ("refused 103", "103: the chunk size"),
+        ("version 1", ""),
+    ],
+)
+def test_explain(tmp_path: Path, reply: str, says: str) -> None:
+    done = subprocess.run([CLONE / "examples/explain"], input=f"{reply}\n", cwd=tmp_path, capture_output=True, text=True, check=False)
+    first, *more = done.stdout.splitlines()
+    assert (done.returncode, done.stderr, first) == (0, "", reply)
+    assert more[0].startswith(f" = {says}") if says else not more
 
 
 def test_cause_is_for_211_alone() -> None:
