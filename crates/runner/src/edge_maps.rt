@@ -1,5 +1,6 @@
 //! Edge maps: the edge applies of a plan, by the engines.
 ghost use Rattle.std.specs.Prelude.{◌≡◌, ℕ, List, [], None, IfOk, slice_get};
+ghost use Rattle.std.specs.Option.{option_copied, option_map};
 ghost use Rattle.typed_tree.specs.ProgramTree.{ProgramTree};
 ghost use Rattle.algorithm_meaning.specs.Function.{steps_of};
 ghost use Rattle.edge_fold.specs.Changed.{AreApart};
@@ -7,7 +8,7 @@ ghost use Rattle.edge_fold.specs.Folded.{AreKernels};
 ghost use Rattle.edge_apply.specs.Applied.{AreChangesOf};
 ghost use Rattle.kernels.specs.Kernels.{IsEdgeKernel};
 ghost use Rattle.kernels.specs.declared.kernel.EdgeKernel.{EdgeKernel};
-ghost use Rattle.plans.specs.Operation.{AreFunctionKernels};
+ghost use Rattle.plans.specs.Operation.{AreFunctionKernels, kernel_at};
 ghost use Rattle.plans.specs.Reducing.{indices_of, steps_at};
 ghost use Rattle.runner.specs.HybridSources.{AreSourcesOf};
 ghost use Rattle.runner.specs.EdgeMap.{IsApplyOfRun};
@@ -115,7 +116,8 @@ pub fn apply_of<'a>(run: RunView<'a>, asked: EdgeMap, no_members: &'a VertexSet)
 
 /// The kernel of the function at the second index, where there is one.
 fn second_kernel<'a>(run: RunView<'a>, second: Option<usize>) -> Option<&'a EdgeKernel>
-    ensures { (p : ProgramTree) (kernel : EdgeKernel) (first : ℕ) → AreFunctionKernels run.entry.functions.now p
+    ensures same { option_copied result ≡ option_map (kernel_at run.entry.functions.now.edge) second }
+    ensures kernels { (p : ProgramTree) (kernel : EdgeKernel) (first : ℕ) → AreFunctionKernels run.entry.functions.now p
         → IsEdgeKernel kernel (steps_of (slice_get p.edge_functions first))
         → AreKernels kernel result (steps_at p.edge_functions (indices_of first second)) }
 {
