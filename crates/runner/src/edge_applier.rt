@@ -11,15 +11,12 @@ ghost use Rattle.vectors.specs.Changes.{with_all_changes};
 
 use crate::direction::{Traversal, hybrid_sources};
 use crate::edge_maps::EdgeMap;
-use crate::traverse::traverse;
-use crew::{Gate, Workers};
 use edge_apply::Apply;
 use edge_fold::Scratch;
 use pull_engine::pull;
 use push_engine::push;
 use run_state::RunView;
 use std::alloc::{AllocError, Global};
-use std::thread::Threads;
 use vectors::Changes;
 use vertex_sets::VertexSet;
 
@@ -62,27 +59,36 @@ pub trait EdgeApplier {
 /// The engines: what an apply changes, by push or by pull, by one worker or many. They keep nothing of a run, and serve any
 /// apply after one that they have done, whatever became of that.
 pub trait ApplyEngine {
+    /// They do applies as they promise.
+    ghost is_ready: { Self → Type 0 };
+
     /// The sources of a hybrid that a filter lets through, in a set, and none for other applies. Each vertex is tested once.
     /// The only error is out of memory.
     fn sources(&mut self, alloc: Global, apply: &Apply<'_>) -> Result<Option<VertexSet>, AllocError>
-        ensures { IfOk result (AreSourcesOf apply.now) };
+        requires { is_ready self.old }
+        ensures sources { IfOk result (AreSourcesOf apply.now) }
+        ensures ready { is_ready self.new };
 
     /// What an apply changes, by a push from its sources: for each vector that a function has given something one list of
     /// changes, by ascending vertices, and a vector without one does not change. It promises so for each vector that has an
     /// entry for each vertex and to which the functions give by one reduction. The vectors stay as they are, and so does the
     /// graph. The sources of a hybrid are all vertices or members of a set. The only error is out of memory.
-    fn push(&mut self, alloc: Global, apply: &Apply<'_>) -> Result<Changes, AllocError>
-        requires sources { AreSourcesOf apply.now None }
-        requires traversal { traversal_of apply.now ≡ way.Push }
+    fn push(&mut self, alloc: Global, apply: Apply<'_>) -> Result<Changes, AllocError>
+        requires ready { is_ready self.old }
+        requires sources { AreSourcesOf apply None }
+        requires traversal { traversal_of apply ≡ way.Push }
         ensures once { IfOk result (λ c. AreApart c.vectors.items) }
-        ensures changes { IfOk result (λ c. AreChangesOf apply.now c.vectors.items) };
+        ensures changes { IfOk result (λ c. AreChangesOf apply.entry c.vectors.items) }
+        ensures ready { is_ready self.new };
 
     /// What an apply changes, by a pull into its destinations, as [`ApplyEngine::push`] says.
-    fn pull(&mut self, alloc: Global, apply: &Apply<'_>) -> Result<Changes, AllocError>
-        requires sources { AreSourcesOf apply.now None }
-        requires traversal { traversal_of apply.now ≡ way.Pull }
+    fn pull(&mut self, alloc: Global, apply: Apply<'_>) -> Result<Changes, AllocError>
+        requires ready { is_ready self.old }
+        requires sources { AreSourcesOf apply None }
+        requires traversal { traversal_of apply ≡ way.Pull }
         ensures once { IfOk result (λ c. AreApart c.vectors.items) }
-        ensures changes { IfOk result (λ c. AreChangesOf apply.now c.vectors.items) };
+        ensures changes { IfOk result (λ c. AreChangesOf apply.entry c.vectors.items) }
+        ensures ready { is_ready self.new };
 }
 
 /// One worker, with the memory that its applies use again and again.
@@ -106,6 +112,8 @@ impl SerialApplier {
 }
 
 impl ApplyEngine for SerialApplier {
+    ghost is_ready = { λ _. Unit {0} };
+
     fn sources(
         &mut self,
         alloc: Global,
@@ -114,45 +122,62 @@ impl ApplyEngine for SerialApplier {
         hybrid_sources(alloc, apply, &mut self.scratch)
     }
 
-    fn push(&mut self, alloc: Global, apply: &Apply<'_>) -> Result<Changes, AllocError> {
-        push(alloc, apply, &mut self.scratch)
+    fn push(&mut self, alloc: Global, apply: Apply<'_>) -> Result<Changes, AllocError> {
+        push(alloc, &apply, &mut self.scratch)
     }
 
-    fn pull(&mut self, alloc: Global, apply: &Apply<'_>) -> Result<Changes, AllocError> {
-        pull(alloc, apply, &mut self.scratch)
+    fn pull(&mut self, alloc: Global, apply: Apply<'_>) -> Result<Changes, AllocError> {
+        pull(alloc, &apply, &mut self.scratch)
     }
 }
 
-/// Workers, and the memory that their applies use again and again: a scratch for the caller, and one for each worker of an
-/// apply in pieces. An apply is done by as many of them as it is worth.
-pub struct ParallelApplier<'a, R, G> {
-    workers: &'a Workers<'a, R, G>,
+/// Workers that do applies by a closure, and the memory that these use again and again: a scratch for the caller, and one for
+/// each worker of an apply in pieces.
+pub struct ParallelApplier<F> {
+    by: F,
     scratch: Scratch,
     states: Vec<Scratch>,
 }
 
-impl<R, G> Drop for ParallelApplier<'_, R, G> {
+impl<F: Drop> Drop for ParallelApplier<F> {
     fn drop(self) {
         let ParallelApplier {
-            workers: _,
+            by: _,
             scratch: _,
             states: _,
         } = self;
     }
 }
 
-impl<'a, R, G> ParallelApplier<'a, R, G> {
+impl<F> ParallelApplier<F> {
     /// It has taken no memory yet.
-    pub fn new(alloc: Global, workers: &'a Workers<'a, R, G>) -> ParallelApplier<'a, R, G> {
+    pub fn new(alloc: Global, by: F) -> ParallelApplier<F>
+        ensures { result.by ≡ by }
+    {
         ParallelApplier {
-            workers,
+            by,
             scratch: Scratch::new(alloc),
             states: Vec::new(alloc),
         }
     }
 }
 
-impl<R: Threads + Sync, G: Gate + Sync> ApplyEngine for ParallelApplier<'_, R, G> {
+impl<
+    F: Fn(
+        Global,
+        Apply<'_>,
+        Traversal,
+        &mut Scratch,
+        &mut Vec<Scratch>,
+    ) -> Result<Changes, AllocError>,
+> ApplyEngine for ParallelApplier<F> {
+    // The closure may be called with the direction of an apply, and gives what the apply changes.
+    ghost is_ready = { λ s. ((alloc : _) (apply : _) (traversal : _) (scratch : _) (states : _) → traversal ≡ traversal_of apply
+        → F.pre s.by alloc apply traversal scratch states)
+        × ((alloc : _) (apply : _) (traversal : _) (scratch : _) (states : _) (r : _) (scratch_after : _) (states_after : _)
+        → F.post s.by alloc apply traversal scratch states r scratch_after states_after
+        → IfOk r (λ c. AreApart c.vectors.items) × IfOk r (λ c. AreChangesOf apply c.vectors.items)) };
+
     fn sources(
         &mut self,
         alloc: Global,
@@ -161,13 +186,13 @@ impl<R: Threads + Sync, G: Gate + Sync> ApplyEngine for ParallelApplier<'_, R, G
         hybrid_sources(alloc, apply, &mut self.scratch)
     }
 
-    fn push(&mut self, alloc: Global, apply: &Apply<'_>) -> Result<Changes, AllocError> {
+    fn push(&mut self, alloc: Global, apply: Apply<'_>) -> Result<Changes, AllocError> {
         let (scratch, states) = (&mut self.scratch, &mut self.states);
-        traverse(self.workers, alloc, apply, Traversal::Push, scratch, states)
+        (self.by)(alloc, apply, Traversal::Push, scratch, states)
     }
 
-    fn pull(&mut self, alloc: Global, apply: &Apply<'_>) -> Result<Changes, AllocError> {
+    fn pull(&mut self, alloc: Global, apply: Apply<'_>) -> Result<Changes, AllocError> {
         let (scratch, states) = (&mut self.scratch, &mut self.states);
-        traverse(self.workers, alloc, apply, Traversal::Pull, scratch, states)
+        (self.by)(alloc, apply, Traversal::Pull, scratch, states)
     }
 }

@@ -37,7 +37,7 @@ pub struct EdgeMap {
 }
 
 impl<E: ApplyEngine> EdgeApplier for E {
-    ghost is_ready = { λ _ _ _. Unit {0} };
+    ghost is_ready = { λ s _ _. E.is_ready s };
 
     ghost knows = { λ _ _. Unit {0} };
 
@@ -68,14 +68,16 @@ pub fn edge_map<E: ApplyEngine>(
     apply: Apply<'_>,
     by: &mut E,
 ) -> Result<Changes, AllocError>
+    requires { E.is_ready by.old }
     ensures once { IfOk result (λ c. AreApart c.vectors.items) }
     ensures changes { IfOk result (λ c. AreChangesOf apply.entry c.vectors.items) }
+    ensures ready { E.is_ready by.new }
 {
     let sources = by.sources(alloc, &apply)?;
     let apply = from_sources(apply, &sources);
     match Traversal::of(&apply) {
-        Traversal::Push => by.push(alloc, &apply),
-        Traversal::Pull => by.pull(alloc, &apply),
+        Traversal::Push => by.push(alloc, apply),
+        Traversal::Pull => by.pull(alloc, apply),
     }
 }
 

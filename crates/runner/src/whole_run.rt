@@ -8,17 +8,25 @@ ghost use Rattle.plans.specs.PlanOf.{IsPlan};
 ghost use Rattle.plans.specs.Reducing.{AppliesReduce};
 ghost use Rattle.crew.specs.Outcome.{AreWorkers};
 ghost use Rattle.run_state.specs.State.{graph_value};
+ghost use Rattle.edge_fold.specs.Changed.{AreApart};
+ghost use Rattle.edge_apply.specs.Applied.{AreChangesOf};
+ghost use Rattle.runner.specs.HybridSources.{traversal_of};
 ghost use Rattle.runner.specs.declared.run_error.RunError.TheVariants.{BadWorkers, NoMemory};
 
+use crate::direction::Traversal;
 use crate::edge_applier::{EdgeApplier, ParallelApplier, SerialApplier};
 use crate::plan_run::PlanRun;
 use crate::run_error::RunError;
+use crate::traverse::traverse;
 use algorithm_meaning::Outcome;
 use crew::{Gate, WorkerCount, Workers};
+use edge_apply::Apply;
+use edge_fold::Scratch;
 use flat_snapshot::Flat;
 use plans::Plan;
 use std::alloc::{AllocError, Global};
 use std::thread::Threads;
+use vectors::Changes;
 
 /// Runs a plan on a snapshot of a graph, for at most n turns, and tells what the run shows: what the program means
 /// on the graph's edges, under any schedule and whoever does its edge applies. The promise is for a program each of whose
@@ -113,6 +121,18 @@ pub fn run_by_workers<R: Threads + Sync, G: Gate + Sync>(
     ensures { IfOk result (λ o. (p : ProgramTree) (s : ScheduleTree) → IsPlan plan.now p s → AppliesReduce p (plan_of p s)
         → o ≡ meaning p (graph_value graph.now) turns) }
 {
-    let mut by = ParallelApplier::new(alloc, workers);
-    run_by(alloc, plan, graph, turns, &mut by)
+    let mut crew = ParallelApplier::new(
+        alloc,
+        |alloc: Global, apply: Apply<
+            '_,
+        >, traversal: Traversal, scratch: &mut Scratch, states: &mut Vec<Scratch>| -> Result<
+            Changes,
+            AllocError,
+        >
+            requires { traversal ≡ traversal_of apply }
+            ensures once { IfOk result (λ c. AreApart c.vectors.items) }
+            ensures changes { IfOk result (λ c. AreChangesOf apply.entry c.vectors.items) }
+        { traverse(workers, alloc, &apply, traversal, scratch, states) },
+    );
+    run_by(alloc, plan, graph, turns, &mut crew)
 }

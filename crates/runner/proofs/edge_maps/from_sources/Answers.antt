@@ -6,7 +6,7 @@ use Rattle.runner.proofs.HybridSources.{changes_from_set}
 use Rattle.runner.proofs.edge_maps.from_sources.Goals as goal
 
 pub returns-in-Some-clause-changes : goal.returns-in-Some-clause-changes
-returns-in-Some-clause-changes over c cs changes =
+returns-in-Some-clause-changes c cs changes =
     let a = c.args.apply in
     let has = subst (λ (s : Option VertexSubset). AreSourcesOf a s) c.in-Some.is c.requires in
-    changes_from_set a c.in-Some.set.now cs has changes
+    changes_from_set a c.in-Some.set cs has changes

@@ -1,6 +1,6 @@
 -- Proofs of `apply_edges` of each engine, src/edge_maps.rt.
 use Rattle.runner.proofs.EdgeMaps.{apply_is_meant, from_both}
-use Rattle.runner.proofs.edge_maps.EEdgeApplier.apply_edges.Goals as goal
+use Rattle.runner.proofs.edge_maps.AnyEdgeApplier.apply_edges.Goals as goal
 
 pub returns-clause-changes : goal.returns-clause-changes
 returns-clause-changes over c =
