@@ -24,7 +24,7 @@
 
 mod among;
 mod differences;
-mod differing;
+mod differing_vertices;
 mod following;
 mod laws;
 mod reached;
@@ -34,7 +34,7 @@ mod tests;
 mod vector_splices;
 
 pub use differences::{Differences, Followed, FormerApply};
-pub use differing::{all_differing, differing, vectors_agree_where_none_differs};
+pub use differing_vertices::{all_differing, differing, vectors_agree_where_none_differs};
 pub use following::follow;
 pub use laws::found_changes_may_be_followed;
 pub use reached::mark_reached;

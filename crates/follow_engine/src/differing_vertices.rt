@@ -1,5 +1,7 @@
 //! The vertices at which vectors differ.
-ghost use Rattle.std.specs.Prelude.{◌≡◌, ◌≤◌, ℕ, ℤ, false, List, length, IfOk};
+ghost use Rattle.std.specs.Prelude.{◌≡◌, ◌≤◌, ◌++◌, ℕ, ℤ, false, not, if◌then◌else◌, List, [], ◌∷◌, length, IfOk, OnOk};
+ghost use Rattle.algorithm_meaning.specs.Arithmetic.{int_equal};
+ghost use Rattle.algorithm_meaning.specs.Value.{entry};
 ghost use Rattle.std.specs.List.{filter};
 ghost use Rattle.algorithm_meaning.specs.VertexSets.{all_below};
 ghost use Rattle.follow_engine.specs.Differing.{differ_at};
@@ -21,9 +23,7 @@ pub fn differing(
 {
     let mut found = Vec::new(alloc);
     'vertices: for vertex in vertices {
-        if differ(now, was, count, *vertex) {
-            found.push(*vertex)?;
-        }
+        keep_if(differ(now, was, count, *vertex), *vertex, &mut found)?;
     }
     Ok(found)
 }
@@ -41,23 +41,38 @@ pub fn all_differing(
 {
     let mut found = Vec::new(alloc);
     'vertices: for vertex in 0..n {
-        if differ(now, was, count, vertex) {
-            found.push(vertex)?;
-        }
+        keep_if(differ(now, was, count, vertex), vertex, &mut found)?;
     }
     Ok(found)
+}
+
+/// Appends a vertex if it is to be kept. The only error is out of memory.
+fn keep_if(is_kept: bool, vertex: u32, found: &mut Vec<u32>) -> Result<(), AllocError>
+    ensures { OnOk result (found.new.items ≡ found.old.items ++ (if is_kept then vertex ∷ [] else [])) }
+{
+    if is_kept {
+        found.push(vertex)?;
+    }
+    Ok(())
 }
 
 /// Whether one of the first `count` vectors has another entry at a vertex.
 fn differ(now: &Vectors, was: &Vectors, count: usize, vertex: u32) -> bool
     ensures { result ≡ differ_at now.now.vectors was.now.vectors count vertex }
 {
-    let mut found = false;
     'vectors: for vector in 0..count {
-        found = found
-            || now.lane(vector).get(vertex as usize) != was.lane(vector).get(vertex as usize);
+        if has_another_entry(now, was, vector, vertex) {
+            return true;
+        }
     }
-    found
+    false
+}
+
+/// Whether a vector has another entry at a vertex.
+fn has_another_entry(now: &Vectors, was: &Vectors, vector: usize, vertex: u32) -> bool
+    ensures { result ≡ not (int_equal (entry now.now.vectors vector vertex) (entry was.now.vectors vector vertex)) }
+{
+    now.lane(vector).get(vertex as usize) != was.lane(vector).get(vertex as usize)
 }
 
 /// The law that vectors agree at each vertex at which none of them differs. The call does nothing.

@@ -1,7 +1,7 @@
 use Rattle.std.proofs.Common.{◌≡◌, ◌++◌, drop}
 use Rattle.std.specs.List.{filter}
 use Rattle.follow_engine.specs.Differing.{differ_at}
-use Rattle.follow_engine.proofs.differing.differing.Given as goal
+use Rattle.follow_engine.proofs.differing_vertices.differing.Given as goal
 
 -- those found so far, and those among the vertices that are left, are all
 abbrev pub invariant-vertices : goal.invariant-vertices
