@@ -41,11 +41,11 @@ HasFunctionsAndEnds run asked apply = (p : ProgramTree) (m : StateValue) → Are
     × IsEndTest apply.from m (passes p.filters m asked.ends.from) × IsEndTest apply.to m (passes p.filters m asked.ends.to)
 
 -- an end of an apply is the one that a plan names: all vertices, the set at an index, or the filter at an index
-abbrev pub IsEndOf : RunView → Option VertexFilter → Option EndpointFilter → Type 0
-IsEndOf run None None = Unit {0}
-IsEndOf run (Some (named.Members slot)) (Some (end.Members set)) = set.now.members ≡ members_in (slice_get run.sets.now slot.index)
-IsEndOf run (Some (named.Function index)) (Some (end.Filter kernel)) = kernel.now ≡ kernel_at run.functions.now.filter index
-IsEndOf run a b = ⊥
+abbrev pub IsNamedEnd : RunView → Option VertexFilter → Option EndpointFilter → Type 0
+IsNamedEnd run None None = Unit {0}
+IsNamedEnd run (Some (named.Members slot)) (Some (end.Members set)) = set.now.members ≡ members_in (slice_get run.sets.now slot.index)
+IsNamedEnd run (Some (named.Function index)) (Some (end.Filter kernel)) = kernel.now ≡ kernel_at run.functions.now.filter index
+IsNamedEnd run a b = ⊥
 
 -- an apply of the engines is an edge apply of a run
 pub record IsApplyOfRun (run : RunView) (asked : EdgeMap) (apply : Apply) : Type 0 where
@@ -54,6 +54,6 @@ pub record IsApplyOfRun (run : RunView) (asked : EdgeMap) (apply : Apply) : Type
   pub sizes : apply.sizes.now ≡ run.sizes.now
   pub first : apply.first.now ≡ kernel_at run.functions.now.edge asked.first
   pub second : option_copied apply.second ≡ option_map (kernel_at run.functions.now.edge) asked.second
-  pub from : IsEndOf run asked.ends.from apply.from
-  pub to : IsEndOf run asked.ends.to apply.to
+  pub from : IsNamedEnd run asked.ends.from apply.from
+  pub to : IsNamedEnd run asked.ends.to apply.to
   pub parts : HasFunctionsAndEnds run asked apply
