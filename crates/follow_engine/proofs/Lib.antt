@@ -9,5 +9,6 @@ mod FollowedChanges
 mod Marked
 mod Merges
 mod Chosen
+mod Agreeing
 pub mod Recorded
 pub mod KeptChanges

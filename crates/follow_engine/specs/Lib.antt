@@ -1,4 +1,5 @@
 pub mod Local
+pub mod Differing
 pub mod Reduced
 pub mod Following
 pub mod Reached

@@ -15,6 +15,8 @@
 //! Following is worth it only if few destinations are reached. So a budget bounds the edges from named vertices, and then
 //! those to reached destinations. If it is spent, [`follow`] answers `None`, and the caller does the whole apply by an engine.
 //!
+//! [`differing`] and [`all_differing`] find the vertices at which the vectors of two applies differ: the named entries.
+//!
 //! To keep the result of a former state and to compute only what a change reaches is incremental computation. The reached
 //! destinations are found by the edges from changed values, which is Ligra's sparse edge map (Shun, Blelloch, PPoPP 2013)
 //! applied to differences, as in GraphBolt (Mariappan, Vora, EuroSys 2019).
@@ -22,6 +24,7 @@
 
 mod among;
 mod differences;
+mod differing_vertices;
 mod following;
 mod laws;
 mod reached;
@@ -31,6 +34,7 @@ mod tests;
 mod vector_splices;
 
 pub use differences::{Differences, Followed, FormerApply};
+pub use differing_vertices::{all_differing, differing, vectors_agree_where_none_differs};
 pub use following::follow;
 pub use laws::found_changes_may_be_followed;
 pub use reached::mark_reached;

@@ -2,7 +2,7 @@
 //! functions are local.
 
 use crate::among::set_of;
-use crate::{Differences, mark_reached, splice};
+use crate::{Differences, all_differing, differing, mark_reached, splice};
 use apply_options::{Direction, Parallelization, Reduction};
 use edge_apply::Apply;
 use flat_snapshot::Flat;
@@ -10,7 +10,7 @@ use kernels::{EdgeKernel, EndpointFilter};
 use std::alloc::{AllocError, Global};
 use std::test::Fail;
 use tree_batch::{Batch, Entry, Graph};
-use typed_tree::{Endpoint, Function, FunctionStatement, IntExpression};
+use typed_tree::{Endpoint, Function, FunctionStatement, IntExpression, Sequence};
 use vectors::{EntryChange, Vectors};
 use vertex_marks::VertexMarks;
 use vertex_sets::VertexSet;
@@ -219,6 +219,55 @@ fn found_and_recorded_changes_are_spliced(rt: HostRuntime) -> Result<(), Fail> {
     for (index, (marked, changes)) in SPLICES.iter().enumerate() {
         let is_right = is_spliced_so(rt.alloc(), marked, *changes)?;
         assert!(rt; is_right, "row {index}");
+    }
+    Ok(())
+}
+
+// The entries of two vectors now, and as they were.
+const NOW: [&[i64]; 2] = [&[1, 2, 3, 4], &[0, 0, 0, 0]];
+
+const WAS: [&[i64]; 2] = [&[1, 5, 3, 6], &[0, 0, 7, 0]];
+
+// How many vectors are compared, some vertices, and those of them at which the vectors differ.
+const LISTS: [(usize, Vertices, Vertices); 6] = [
+    (0, &[0, 1, 2, 3], &[]),
+    (1, &[0, 1, 2, 3], &[1, 3]),
+    (2, &[0, 1, 2, 3], &[1, 2, 3]),
+    (2, &[3, 2, 9, 0, 3], &[3, 2, 3]),
+    (2, &[], &[]),
+    (7, &[2, 1], &[2, 1]),
+];
+
+// How many vectors and vertices are compared, and the vertices at which the vectors differ.
+const RANGES: [(usize, u32, Vertices); 4] = [
+    (2, 4, &[1, 2, 3]),
+    (1, 4, &[1, 3]),
+    (2, 2, &[1]),
+    (2, 0, &[]),
+];
+
+fn vectors_of(alloc: Global, rows: [&[i64]; 2]) -> Result<Vectors, AllocError> {
+    let mut arrays = Vec::new(alloc);
+    for row in &rows {
+        let mut entries = Vec::new(alloc);
+        entries.extend_from_slice(row)?;
+        arrays.push(Sequence::new(entries))?;
+    }
+    Vectors::new(alloc, arrays)
+}
+
+#[test]
+fn vertices_at_which_vectors_differ_are_found(rt: HostRuntime) -> Result<(), Fail> {
+    let alloc = rt.alloc();
+    let now = vectors_of(alloc, NOW)?;
+    let was = vectors_of(alloc, WAS)?;
+    for (index, (count, vertices, wanted)) in LISTS.iter().enumerate() {
+        let found = differing(alloc, &now, &was, *count, vertices)?;
+        assert!(rt; found.as_slice() == *wanted, "list {index}");
+    }
+    for (index, (count, vertices, wanted)) in RANGES.iter().enumerate() {
+        let found = all_differing(alloc, &now, &was, *count, *vertices)?;
+        assert!(rt; found.as_slice() == *wanted, "range {index}");
     }
     Ok(())
 }

@@ -18,8 +18,7 @@ use Rattle.edge_apply.specs.declared.apply.Apply.{Apply}
 use Rattle.vectors.specs.declared.changes.VectorChanges.{VectorChanges}
 use Rattle.plans.specs.Reducing.{AreReduced, indices_of, steps_at}
 use Rattle.run_state.specs.declared.run_view.RunView.{RunView}
-use Rattle.runner.specs.EdgeMap.{AreChangesTo, AreChangesOfApply}
-use Rattle.runner.specs.inside.EdgeMap.{IsApplyOfRun}
+use Rattle.runner.specs.EdgeMap.{AreChangesTo, AreChangesOfApply, IsApplyOfRun}
 use Rattle.runner.specs.declared.edge_maps.EdgeMap.{EdgeMap}
 use Rattle.run_state.specs.View.{HasEntryForEach}
 use Rattle.runner.proofs.Between.{count_after_edges, entry_past, matching_between, rows_after_edges}
@@ -71,7 +70,7 @@ apply_is_meant run asked apply cs graph is once changes p m g view long one =
     let indices = indices_of asked.first asked.second in
     let parts = is.parts p m view.functions view.sets in
     changes_are_meant apply.flat.now p m g asked.ends indices cs (subst IsDigraph (sym is.graph) graph)
-    (ap (λ (d : Digraph). d.vertices) is.graph ∙ view.vertices) (ap (λ (d : Digraph). d.edges) is.graph ∙ view.edges) long one once
+    (ap (λ (d : Digraph). d.vertices) is.graph ∙ view.vertices) (ap (λ (d : Digraph). d.edges) is.graph ∙ view.edges) long (one m) once
     (changes m (steps_at p.edge_functions indices) (passes p.filters m asked.ends.from) (passes p.filters m asked.ends.to)
     (ap (λ vs. vs.vectors) is.vectors ∙ view.vectors) (subst (λ ns. HasSizes ns m) (sym is.sizes) view.sizes) parts.0 parts.1 parts.2)
 

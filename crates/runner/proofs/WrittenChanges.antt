@@ -34,7 +34,7 @@ rows_after_changes vector [] vectors x = refl
 rows_after_changes vector (c ∷ cs) vectors x =
     rows_after_changes vector cs (with_entry vectors vector c.vertex c.number) x ∙ length_stays vectors vector c.vertex c.number x
 
-rows_after_all : (cs : List VectorChanges) (vectors : List (List ℤ)) (x : ℕ) → length (slice_index_or (with_all_changes cs vectors) x []) ≡ length (slice_index_or vectors x [])
+pub rows_after_all : (cs : List VectorChanges) (vectors : List (List ℤ)) (x : ℕ) → length (slice_index_or (with_all_changes cs vectors) x []) ≡ length (slice_index_or vectors x [])
 rows_after_all [] vectors x = refl
 rows_after_all (c ∷ cs) vectors x = rows_after_all cs (with_changes c.vector c.changes.items vectors) x ∙ rows_after_changes c.vector c.changes.items vectors x
 
@@ -48,7 +48,7 @@ count_after_changes vector [] vectors = refl
 count_after_changes vector (c ∷ cs) vectors =
     count_after_changes vector cs (with_entry vectors vector c.vertex c.number) ∙ count_after_entry vectors vector c.vertex c.number
 
-count_after_all : (cs : List VectorChanges) (vectors : List (List ℤ)) → length (with_all_changes cs vectors) ≡ length vectors
+pub count_after_all : (cs : List VectorChanges) (vectors : List (List ℤ)) → length (with_all_changes cs vectors) ≡ length vectors
 count_after_all [] vectors = refl
 count_after_all (c ∷ cs) vectors = count_after_all cs (with_changes c.vector c.changes.items vectors) ∙ count_after_changes c.vector c.changes.items vectors
 
@@ -107,7 +107,7 @@ after_first c cs vectors x v false e once h others =
     ∙ sym (ap (λ (t : Bool). number_after (cond t c.changes.items (changes_of x cs)) v (entry vectors x v)) e)
 
 -- an entry after all changes, where each vector is there once
-entry_after_all : (cs : List VectorChanges) (vectors : List (List ℤ)) (x v : ℕ) → AreApart cs → v < length (slice_index_or vectors x [])
+pub entry_after_all : (cs : List VectorChanges) (vectors : List (List ℤ)) (x v : ℕ) → AreApart cs → v < length (slice_index_or vectors x [])
     → entry (with_all_changes cs vectors) x v ≡ number_after (changes_of x cs) v (entry vectors x v)
 entry_after_all [] vectors x v apart h = refl
 entry_after_all (c ∷ cs) vectors x v apart h =

@@ -2,6 +2,5 @@ pub mod Results
 pub mod Position
 pub mod Groups
 pub mod Employment
-pub mod EdgeMap
 pub mod Done
 pub mod ChangedSets

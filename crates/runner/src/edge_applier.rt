@@ -6,10 +6,11 @@ ghost use Rattle.flat_snapshot.specs.Digraph.{Digraph};
 ghost use Rattle.plans.specs.declared.functions.FunctionKernels.{FunctionKernels};
 ghost use Rattle.runner.specs.EdgeMap.{AreChangesOfApply};
 ghost use Rattle.runner.specs.HybridSources.{AreSourcesOf, traversal_of};
+ghost use Rattle.runner.specs.declared.direction.Traversal.TheVariants as way;
 ghost use Rattle.vectors.specs.Changes.{with_all_changes};
 
 use crate::direction::{Traversal, hybrid_sources};
-use crate::edge_maps::{EdgeMap, edge_map};
+use crate::edge_maps::EdgeMap;
 use edge_apply::Apply;
 use edge_fold::Scratch;
 use pull_engine::pull;
@@ -21,7 +22,7 @@ use vertex_sets::VertexSet;
 
 /// Who does the edge applies of a run. An applier may keep what it did, and what it knows of the run's vectors since: so it is
 /// for the functions of one plan and for one graph, and the run says when it writes to its vectors by anything but an edge
-/// apply.
+/// apply. Each [`ApplyEngine`] is one that keeps nothing.
 pub trait EdgeApplier {
     /// It does applies of these functions on this graph.
     ghost is_ready: { Self → FunctionKernels → Digraph → Type 0 };
@@ -34,8 +35,14 @@ pub trait EdgeApplier {
         ensures ready { (functions : FunctionKernels) (graph : Digraph) → is_ready self.old functions graph → is_ready self.new functions graph }
         ensures knows { (vectors : List (List ℤ)) → knows self.new vectors };
 
-    /// What an edge apply changes, as [`crate::edge_map`] says. The only error is out of memory. It serves any apply after this
-    /// one, whatever became of it.
+    /// What an edge apply of a plan changes: written to the vectors of the run, the changes make those after the apply. An index
+    /// without a set has no members; an index without a function has one that does nothing. It promises so if in every state
+    /// the functions give each vector numbers by one reduction, and if each vector has an entry for each vertex.
+    ///
+    /// If the schedule says nothing, a sparse push is done, in one piece. The changes do not depend on it. The vectors, the sets
+    /// and the graph stay as they are.
+    ///
+    /// The only error is out of memory. It serves any apply after this one, whatever became of it.
     fn apply_edges(
         &mut self,
         alloc: Global,
@@ -62,19 +69,23 @@ pub trait ApplyEngine {
         ensures sources { IfOk result (AreSourcesOf apply.now) }
         ensures ready { is_ready self.new };
 
-    /// What an apply changes, gone over in its direction: for each vector that a function has given something one list of
+    /// What an apply changes, by a push from its sources: for each vector that a function has given something one list of
     /// changes, by ascending vertices, and a vector without one does not change. It promises so for each vector that has an
     /// entry for each vertex and to which the functions give by one reduction. The vectors stay as they are, and so does the
     /// graph. The sources of a hybrid are all vertices or members of a set. The only error is out of memory.
-    fn traverse(
-        &mut self,
-        alloc: Global,
-        apply: Apply<'_>,
-        traversal: Traversal,
-    ) -> Result<Changes, AllocError>
+    fn push(&mut self, alloc: Global, apply: Apply<'_>) -> Result<Changes, AllocError>
         requires ready { is_ready self.old }
         requires sources { AreSourcesOf apply None }
-        requires traversal { traversal ≡ traversal_of apply }
+        requires traversal { traversal_of apply ≡ way.Push }
+        ensures once { IfOk result (λ c. AreApart c.vectors.items) }
+        ensures changes { IfOk result (λ c. AreChangesOf apply.entry c.vectors.items) }
+        ensures ready { is_ready self.new };
+
+    /// What an apply changes, by a pull into its destinations, as [`ApplyEngine::push`] says.
+    fn pull(&mut self, alloc: Global, apply: Apply<'_>) -> Result<Changes, AllocError>
+        requires ready { is_ready self.old }
+        requires sources { AreSourcesOf apply None }
+        requires traversal { traversal_of apply ≡ way.Pull }
         ensures once { IfOk result (λ c. AreApart c.vectors.items) }
         ensures changes { IfOk result (λ c. AreChangesOf apply.entry c.vectors.items) }
         ensures ready { is_ready self.new };
@@ -100,23 +111,6 @@ impl SerialApplier {
     }
 }
 
-impl EdgeApplier for SerialApplier {
-    ghost is_ready = { λ _ _ _. Unit {0} };
-
-    ghost knows = { λ _ _. Unit {0} };
-
-    fn forget_vectors(&mut self) {}
-
-    fn apply_edges(
-        &mut self,
-        alloc: Global,
-        run: RunView<'_>,
-        asked: EdgeMap,
-    ) -> Result<Changes, AllocError> {
-        edge_map(alloc, run, asked, self)
-    }
-}
-
 impl ApplyEngine for SerialApplier {
     ghost is_ready = { λ _. Unit {0} };
 
@@ -128,16 +122,12 @@ impl ApplyEngine for SerialApplier {
         hybrid_sources(alloc, apply, &mut self.scratch)
     }
 
-    fn traverse(
-        &mut self,
-        alloc: Global,
-        apply: Apply<'_>,
-        traversal: Traversal,
-    ) -> Result<Changes, AllocError> {
-        match traversal {
-            Traversal::Push => push(alloc, &apply, &mut self.scratch),
-            Traversal::Pull => pull(alloc, &apply, &mut self.scratch),
-        }
+    fn push(&mut self, alloc: Global, apply: Apply<'_>) -> Result<Changes, AllocError> {
+        push(alloc, &apply, &mut self.scratch)
+    }
+
+    fn pull(&mut self, alloc: Global, apply: Apply<'_>) -> Result<Changes, AllocError> {
+        pull(alloc, &apply, &mut self.scratch)
     }
 }
 
@@ -180,36 +170,6 @@ impl<
         &mut Scratch,
         &mut Vec<Scratch>,
     ) -> Result<Changes, AllocError>,
-> EdgeApplier for ParallelApplier<F> {
-    // The closure may be called with the direction of an apply, and gives what the apply changes.
-    ghost is_ready = { λ s _ _. ((alloc : _) (apply : _) (traversal : _) (scratch : _) (states : _) → traversal ≡ traversal_of apply
-        → F.pre s.by alloc apply traversal scratch states)
-        × ((alloc : _) (apply : _) (traversal : _) (scratch : _) (states : _) (r : _) (scratch_after : _) (states_after : _)
-        → F.post s.by alloc apply traversal scratch states r scratch_after states_after
-        → IfOk r (λ c. AreApart c.vectors.items) × IfOk r (λ c. AreChangesOf apply c.vectors.items)) };
-
-    ghost knows = { λ _ _. Unit {0} };
-
-    fn forget_vectors(&mut self) {}
-
-    fn apply_edges(
-        &mut self,
-        alloc: Global,
-        run: RunView<'_>,
-        asked: EdgeMap,
-    ) -> Result<Changes, AllocError> {
-        edge_map(alloc, run, asked, self)
-    }
-}
-
-impl<
-    F: Fn(
-        Global,
-        Apply<'_>,
-        Traversal,
-        &mut Scratch,
-        &mut Vec<Scratch>,
-    ) -> Result<Changes, AllocError>,
 > ApplyEngine for ParallelApplier<F> {
     // The closure may be called with the direction of an apply, and gives what the apply changes.
     ghost is_ready = { λ s. ((alloc : _) (apply : _) (traversal : _) (scratch : _) (states : _) → traversal ≡ traversal_of apply
@@ -226,12 +186,13 @@ impl<
         hybrid_sources(alloc, apply, &mut self.scratch)
     }
 
-    fn traverse(
-        &mut self,
-        alloc: Global,
-        apply: Apply<'_>,
-        traversal: Traversal,
-    ) -> Result<Changes, AllocError> {
-        (self.by)(alloc, apply, traversal, &mut self.scratch, &mut self.states)
+    fn push(&mut self, alloc: Global, apply: Apply<'_>) -> Result<Changes, AllocError> {
+        let (scratch, states) = (&mut self.scratch, &mut self.states);
+        (self.by)(alloc, apply, Traversal::Push, scratch, states)
+    }
+
+    fn pull(&mut self, alloc: Global, apply: Apply<'_>) -> Result<Changes, AllocError> {
+        let (scratch, states) = (&mut self.scratch, &mut self.states);
+        (self.by)(alloc, apply, Traversal::Pull, scratch, states)
     }
 }

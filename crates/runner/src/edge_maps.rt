@@ -1,5 +1,6 @@
-//! Edge applies of a plan.
-ghost use Rattle.std.specs.Prelude.{◌≡◌, ℕ, [], IfOk, slice_get};
+//! Edge maps: the edge applies of a plan, by the engines.
+ghost use Rattle.std.specs.Prelude.{◌≡◌, ℕ, List, [], None, IfOk, slice_get};
+ghost use Rattle.std.specs.Option.{option_copied, option_map};
 ghost use Rattle.typed_tree.specs.ProgramTree.{ProgramTree};
 ghost use Rattle.algorithm_meaning.specs.Function.{steps_of};
 ghost use Rattle.edge_fold.specs.Changed.{AreApart};
@@ -7,13 +8,14 @@ ghost use Rattle.edge_fold.specs.Folded.{AreKernels};
 ghost use Rattle.edge_apply.specs.Applied.{AreChangesOf};
 ghost use Rattle.kernels.specs.Kernels.{IsEdgeKernel};
 ghost use Rattle.kernels.specs.declared.kernel.EdgeKernel.{EdgeKernel};
-ghost use Rattle.plans.specs.Operation.{AreFunctionKernels};
+ghost use Rattle.plans.specs.Operation.{AreFunctionKernels, kernel_at};
 ghost use Rattle.plans.specs.Reducing.{indices_of, steps_at};
-ghost use Rattle.runner.specs.EdgeMap.{AreChangesOfApply};
-ghost use Rattle.runner.specs.inside.EdgeMap.{IsApplyOfRun};
+ghost use Rattle.runner.specs.HybridSources.{AreSourcesOf};
+ghost use Rattle.runner.specs.EdgeMap.{IsApplyOfRun};
+ghost use Rattle.vectors.specs.declared.changes.VectorChanges.{VectorChanges};
 
 use crate::direction::Traversal;
-use crate::edge_applier::ApplyEngine;
+use crate::edge_applier::{ApplyEngine, EdgeApplier};
 use crate::ends::end_of;
 use apply_options::{ApplySchedule, Direction, Parallelization};
 use edge_apply::Apply;
@@ -34,32 +36,34 @@ pub struct EdgeMap {
     pub schedule: ApplySchedule,
 }
 
-/// What an edge apply changes: written to the vectors of the run, the changes make those after the apply. An index without
-/// a set has no members; an index without a function has one that does nothing. It promises so where the functions give
-/// each vector numbers by one reduction, and each vector has an entry for each vertex.
+impl<E: ApplyEngine> EdgeApplier for E {
+    ghost is_ready = { λ s _ _. E.is_ready s };
+
+    ghost knows = { λ _ _. Unit {0} };
+
+    fn forget_vectors(&mut self) {}
+
+    fn apply_edges(
+        &mut self,
+        alloc: Global,
+        run: RunView<'_>,
+        asked: EdgeMap,
+    ) -> Result<Changes, AllocError> {
+        let no_members = VertexSet::empty(alloc, run.graph.vertices(), Form::List)?;
+        let apply = apply_of(run, asked, &no_members);
+        edge_map(alloc, apply, self)
+    }
+}
+
+/// What an apply of edge functions changes, by push or by pull: for each vector that a function has given something one list
+/// of changes, by ascending vertices, and a vector without one does not change. It promises so for each vector that has an
+/// entry for each vertex and to which the functions give by one reduction. The vectors stay as they are, and so does the graph.
 ///
-/// Where the schedule says nothing, a sparse push is done, in one piece. The changes do not depend on it. The hybrid goes by
-/// [`crate::pick_direction`]; where all sources pass it pulls, and a filter of sources is run for each vertex, once. The
-/// vectors, the sets and the graph stay as they are.
+/// The hybrid goes by [`crate::pick_direction`]. If all sources pass it pulls, and a filter of sources is run for each vertex,
+/// once.
 ///
 /// The only error is out of memory. Who does the apply serves any apply after this one, whatever became of it.
 pub fn edge_map<E: ApplyEngine>(
-    alloc: Global,
-    run: RunView<'_>,
-    asked: EdgeMap,
-    by: &mut E,
-) -> Result<Changes, AllocError>
-    requires { E.is_ready by.old }
-    ensures changes { IfOk result (λ c. AreChangesOfApply run.entry asked c.vectors.items) }
-    ensures ready { E.is_ready by.new }
-{
-    let no_members = VertexSet::empty(alloc, run.graph.vertices(), Form::List)?;
-    let apply = apply_of(run, asked, &no_members);
-    push_or_pull(alloc, apply, by)
-}
-
-/// What an apply of the engines changes, by push or by pull, as [`edge_map`] says.
-fn push_or_pull<E: ApplyEngine>(
     alloc: Global,
     apply: Apply<'_>,
     by: &mut E,
@@ -70,19 +74,31 @@ fn push_or_pull<E: ApplyEngine>(
     ensures ready { E.is_ready by.new }
 {
     let sources = by.sources(alloc, &apply)?;
-    let Some(set) = &sources else {
-        return by.traverse(alloc, apply, Traversal::of(&apply));
-    };
-    let among = Apply {
-        from: Some(EndpointFilter::Members(set)),
-        ..apply
-    };
-    by.traverse(alloc, among, Traversal::of(&among))
+    let apply = from_sources(apply, &sources);
+    match Traversal::of(&apply) {
+        Traversal::Push => by.push(alloc, apply),
+        Traversal::Pull => by.pull(alloc, apply),
+    }
+}
+
+/// An apply from the members of its sources, if they are in a set.
+fn from_sources<'a>(apply: Apply<'a>, sources: &'a Option<VertexSet>) -> Apply<'a>
+    requires { AreSourcesOf apply sources.now }
+    ensures sources { AreSourcesOf result None }
+    ensures changes { (cs : List VectorChanges) → AreChangesOf result cs → AreChangesOf apply.entry cs }
+{
+    match sources {
+        None => apply,
+        Some(set) => Apply {
+            from: Some(EndpointFilter::Members(set)),
+            ..apply
+        },
+    }
 }
 
 /// The apply as the engines take it, a sparse push in one piece where the schedule says nothing. An index without a set has
 /// the members of `no_members`, which has none.
-pub(crate) fn apply_of<'a>(run: RunView<'a>, asked: EdgeMap, no_members: &'a VertexSet) -> Apply<'a>
+pub fn apply_of<'a>(run: RunView<'a>, asked: EdgeMap, no_members: &'a VertexSet) -> Apply<'a>
     requires { no_members.now.members ≡ [] }
     ensures { IsApplyOfRun run.entry asked result }
 {
@@ -102,7 +118,8 @@ pub(crate) fn apply_of<'a>(run: RunView<'a>, asked: EdgeMap, no_members: &'a Ver
 
 /// The kernel of the function at the second index, where there is one.
 fn second_kernel<'a>(run: RunView<'a>, second: Option<usize>) -> Option<&'a EdgeKernel>
-    ensures { (p : ProgramTree) (kernel : EdgeKernel) (first : ℕ) → AreFunctionKernels run.entry.functions.now p
+    ensures same { option_copied result ≡ option_map (kernel_at run.entry.functions.now.edge) second }
+    ensures kernels { (p : ProgramTree) (kernel : EdgeKernel) (first : ℕ) → AreFunctionKernels run.entry.functions.now p
         → IsEdgeKernel kernel (steps_of (slice_get p.edge_functions first))
         → AreKernels kernel result (steps_at p.edge_functions (indices_of first second)) }
 {

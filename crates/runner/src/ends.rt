@@ -6,6 +6,7 @@ ghost use Rattle.algorithm_meaning.specs.State.{StateValue};
 ghost use Rattle.edge_fold.specs.Ends.{IsEndTest};
 ghost use Rattle.plans.specs.Operation.{AreFunctionKernels};
 ghost use Rattle.run_state.specs.View.{HasSets};
+ghost use Rattle.runner.specs.EdgeMap.{IsNamedEnd};
 
 use kernels::EndpointFilter;
 use run_state::RunView;
@@ -20,8 +21,9 @@ pub(crate) fn end_of<'a>(
     no_members: &'a VertexSet,
 ) -> Option<EndpointFilter<'a>>
     requires { no_members.now.members ≡ [] }
-    ensures { (p : ProgramTree) (m : StateValue) → AreFunctionKernels run.entry.functions.now p → HasSets run.entry m
+    ensures test { (p : ProgramTree) (m : StateValue) → AreFunctionKernels run.entry.functions.now p → HasSets run.entry m
         → IsEndTest result m (passes p.filters m end) }
+    ensures end { IsNamedEnd run.entry end result }
 {
     match end {
         None => None,

@@ -7,16 +7,15 @@
 //!
 //! [`run`] runs a plan by 1 to 64 workers; what it shows is the same however the pieces of applies fall to them.
 //!
-//! [`edge_map`] does an edge apply of a plan. It makes an apply for the engines of two ends, one or two functions and what the
-//! schedule says of them, chooses push or pull ([`Traversal`]), and tells what the apply changes: written to the vectors, the
-//! changes are those after the apply (`after_edge_apply` of `algorithm_meaning`). The promise is for a program whose functions
-//! give each vector numbers by one reduction (`specs/Reducing.antt` of `plans`). An [`ApplyEngine`] then goes over the edges:
-//! a [`SerialApplier`] by one worker, and a [`ParallelApplier`] by many. [`pick_direction`] is the rule of the hybrid: it pulls
-//! if the sources and the edges from them are more than a twentieth of all edges. That rule, and the name of the operator,
-//! are those of Ligra (Shun, Blelloch, PPoPP 2013).
-//!
-//! A run leaves its edge applies to an [`EdgeApplier`], and says when it writes to its vectors otherwise. So an applier may keep
-//! what it did, and take from that what an apply changes. Both appliers of this crate keep nothing.
+//! A run leaves its edge applies to an [`EdgeApplier`], and says when it writes to its vectors otherwise. So an applier may
+//! keep what it did, and take from that what an apply changes. Each [`ApplyEngine`] is one that keeps nothing: [`apply_of`] makes
+//! an apply for the engines of two ends, one or two functions and what the schedule says of them; [`edge_map`] chooses push or
+//! pull ([`Traversal`]), and gives what the apply changes: written to the vectors, the changes are those after the apply
+//! (`after_edge_apply` of `algorithm_meaning`). The promise is for a program whose functions give each vector numbers by one
+//! reduction (`specs/Reducing.antt` of `plans`). A [`SerialApplier`] goes over the edges by one worker, and a
+//! [`ParallelApplier`] by many. [`pick_direction`] is the rule of the hybrid: it pulls if the sources and the edges from them
+//! are more than a twentieth of all edges. That rule, and the name of the operator, are those of Ligra (Shun, Blelloch, PPoPP
+//! 2013).
 //!
 //! Every value of a plan is that of some program, and so a run ends: its turns are bounded, and between two turns each
 //! step leads to an index of lower rank.
@@ -45,7 +44,7 @@ mod whole_run;
 
 pub use direction::{Traversal, pick_direction};
 pub use edge_applier::{ApplyEngine, EdgeApplier, ParallelApplier, SerialApplier};
-pub use edge_maps::{EdgeMap, edge_map};
+pub use edge_maps::{EdgeMap, apply_of, edge_map};
 pub use job::{Job, Stand};
 pub use run_error::RunError;
 pub use whole_run::{run, run_alone, run_by, run_by_workers};

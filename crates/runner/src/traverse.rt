@@ -16,7 +16,7 @@ use std::alloc::{AllocError, Global};
 use std::thread::Threads;
 use vectors::Changes;
 
-/// What an apply changes, gone over in its direction, as [`crate::EdgeApplier`] says.
+/// What an apply changes, gone over in its direction, as [`crate::ApplyEngine`] says.
 ///
 /// If somebody watches the gate, the apply is done in the pieces of its schedule, by all workers. Else fewer do
 /// it if it has fewer edges, and one as a whole.

@@ -1,9 +1,11 @@
 -- Proofs of `edge_map`, src/edge_maps.rt.
-use Rattle.runner.proofs.EdgeMaps.{apply_is_meant, from_both}
+use Rattle.std.proofs.lemmas.Result.{IfOk-weaker}
 use Rattle.runner.proofs.edge_maps.edge_map.Goals as goal
+
+pub returns-in-Push-clause-changes : goal.returns-in-Push-clause-changes
+returns-in-Push-clause-changes over c =
+    IfOk-weaker c.push.result _ _ (λ cs changes. c.from_sources-apply.ensures.changes cs.vectors.items changes) c.push.ensures.changes
 
 pub returns-clause-changes : goal.returns-clause-changes
 returns-clause-changes over c =
-    from_both _ _ _ c.push_or_pull.result
-    (λ cs once changes. apply_is_meant c.args.run c.args.asked c.apply_of-apply.result cs.vectors.items c.vertices.ensures.graph c.apply_of-apply.ensures once changes)
-    c.push_or_pull.ensures.once c.push_or_pull.ensures.changes
+    IfOk-weaker c.pull.result _ _ (λ cs changes. c.from_sources-apply.ensures.changes cs.vectors.items changes) c.pull.ensures.changes

@@ -6,8 +6,8 @@ use Rattle.algorithm_meaning.specs.Function.{steps_of}
 use Rattle.kernels.specs.Kernels.{IsFilterKernel}
 use Rattle.runner.proofs.ends.end_of.Goals as goal
 
-pub returns-in-Some-Function : goal.returns-in-Some-Function
-returns-in-Some-Function c p m functions sets =
+pub returns-in-Some-Function-clause-test : goal.returns-in-Some-Function-clause-test
+returns-in-Some-Function-clause-test c p m functions sets =
     let index = c.in-Some-Function.index in
     let named : c.args.end ≡ Some (end.Function index) = search rules in
     record {

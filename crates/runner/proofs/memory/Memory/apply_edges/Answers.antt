@@ -1,7 +1,7 @@
 -- Proofs of `apply_edges`, src/applies.rt.
 use Rattle.std.proofs.Common.{◌≡◌, ◌∙◌, ◌+◌, ℕ, List, Option, ap, sym, subst}
 use Rattle.algorithm_meaning.specs.EdgeApply.{after_edge_apply}
-use Rattle.algorithm_meaning.specs.State.{GraphValue}
+use Rattle.algorithm_meaning.specs.State.{GraphValue, StateValue}
 use Rattle.run_state.specs.View.{HasEntryForEach}
 use Rattle.plans.specs.Machine.{At}
 use Rattle.plans.specs.Reducing.{AreReduced, indices_of, steps_at}
@@ -26,7 +26,7 @@ returns-clause-done over c p g t same on functions is reduces =
     let view = c.view-view.ensures.seen p g functions vertices edges in
     let entries = subst (λ (n : ℕ). HasEntryForEach n s.vectors) on c.view-view.ensures.entries in
     let indices = ap (λ (o : Option ℕ). indices_of part.function o) c.function_of-both.ensures in
-    let reduced = subst (λ (fs : List ℕ). AreReduced (steps_at p.edge_functions fs) s) (sym indices) (are_reduced p ends part second t is reduces s) in
+    let reduced = λ (k : StateValue). subst (λ (fs : List ℕ). AreReduced (steps_at p.edge_functions fs) k) (sym indices) (are_reduced p ends part second t is reduces k) in
     let after = after_edge_apply p.filters p.edge_functions g ends (function_indices part second) s in
     let changes = subst (λ (fs : List ℕ). AreChangesTo g.vertices s.vectors (after_edge_apply p.filters p.edge_functions g ends fs s) cs) indices
     (c.in_ok-changes.ensures.changes p s g view entries reduced) in
