@@ -37,8 +37,14 @@ pub(crate) fn traverse<R: Threads + Sync, G: Gate + Sync>(
 {
     match employed_by(workers, apply, traversal) {
         None => traverse_alone(workers.count, alloc, apply, traversal, scratch),
-        Some(employed) => {
-            traverse_in_pieces(workers, employed, alloc, apply, traversal, scratch, states)
+        Some(count) => {
+            let all = workers.count;
+            let employed = Workers {
+                rt: workers.rt,
+                gate: workers.gate,
+                count,
+            };
+            traverse_in_pieces(&employed, all, alloc, apply, traversal, scratch, states)
         }
     }
 }
@@ -77,10 +83,10 @@ fn traverse_alone(
     }
 }
 
-/// Does an apply in pieces, by as many of the workers as it is worth.
+/// Does an apply in pieces by these workers, who are as many of all as it is worth.
 fn traverse_in_pieces<R: Threads + Sync, G: Gate + Sync>(
     workers: &Workers<'_, R, G>,
-    employed: WorkerCount,
+    all: WorkerCount,
     alloc: Global,
     apply: &Apply<'_>,
     traversal: Traversal,
@@ -88,17 +94,12 @@ fn traverse_in_pieces<R: Threads + Sync, G: Gate + Sync>(
     states: &mut Vec<Scratch>,
 ) -> Result<Changes, AllocError>
     requires traversal { traversal ≡ traversal_of apply.now }
-    requires employed { AreEmployed apply.now.parallelization workers.now.count (work_of traversal apply.now) (Some employed) }
+    requires employed { AreEmployed apply.now.parallelization all (work_of traversal apply.now) (Some workers.now.count) }
     ensures once { IfOk result (λ c. AreApart c.vectors.items) }
     ensures changes { IfOk result (λ c. AreChangesOf apply.now c.vectors.items) }
 {
-    let employed = Workers {
-        rt: workers.rt,
-        gate: workers.gate,
-        count: employed,
-    };
     match traversal {
-        Traversal::Push => push_by_workers(&employed, alloc, apply, scratch, states),
-        Traversal::Pull => pull_by_workers(&employed, alloc, apply, scratch, states),
+        Traversal::Push => push_by_workers(workers, alloc, apply, scratch, states),
+        Traversal::Pull => pull_by_workers(workers, alloc, apply, scratch, states),
     }
 }
