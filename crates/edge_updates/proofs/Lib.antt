@@ -4,3 +4,4 @@ pub mod KeepingLast
 pub mod Transposing
 pub mod EndWidths
 pub mod Weighted
+pub mod PairColumns

@@ -15,14 +15,6 @@ pub neighbour_small : (u : EdgeUpdate) → neighbour_of u < 2 ^ 24
 unfolding neighbour_of
 neighbour_small u = omega arith
 
--- an update with a key
-pub at_key : ℕ → EdgeUpdate
-at_key k = record { bits = k * 2 ^ 16 }
-
-pub key_at : (k : ℕ) → key_of (at_key k) ≡ k
-unfolding key_of at_key
-key_at k = omega arith
-
 -- updates with one key name one edge
 pub same_vertex : (a b : EdgeUpdate) → key_of a ≡ key_of b → vertex_of a ≡ vertex_of b
 unfolding vertex_of

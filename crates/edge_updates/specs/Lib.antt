@@ -1,4 +1,5 @@
 pub mod EdgeUpdate
 pub mod Updates
 pub mod Weighted
+pub mod WeightedUpdates
 pub mod inside

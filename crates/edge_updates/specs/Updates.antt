@@ -1,8 +1,12 @@
 -- What lists of updates decide of edges, and their order.
-use Rattle.std.specs.Prelude.{◌≡◌, ℕ, ◌+◌, ◌<◌, ◌≤◌, ◌==◌, Bool, ◌&&◌, Option, Some, None, if◌then◌else◌, List, [], ◌∷◌}
+use Rattle.std.specs.Prelude.{◌≡◌, ℕ, ℤ, pos, ◌+◌, ◌<◌, ◌≤◌, ◌==◌, Bool, ◌&&◌, Option, Some, None, if◌then◌else◌, List, [], ◌∷◌}
 use Rattle.std.specs.Option.{option_or}
 use Rattle.edge_updates.specs.declared.edge_update.EdgeUpdate.{EdgeUpdate}
 use Rattle.edge_updates.specs.EdgeUpdate.{vertex_of, neighbour_of, adds}
+
+-- an update without a weight, as a pair: an edge that it adds has weight 1
+abbrev pub unit_pair : EdgeUpdate → EdgeUpdate × ℤ
+unit_pair u = (u, pos 1)
 
 -- an edge: a vertex and its neighbour
 abbrev pub Edge : Type 0
@@ -12,14 +16,18 @@ Edge = ℕ × ℕ
 abbrev pub names : EdgeUpdate → Edge → Bool
 names u e = (vertex_of u == e.0) && (neighbour_of u == e.1)
 
--- what one update says of an edge
-abbrev pub one_decided : EdgeUpdate → Edge → Option Bool
-one_decided u e = if names u e then Some (adds u) else None
+-- what an update makes of its edge: one of this weight, or none
+abbrev pub weight_said : EdgeUpdate × ℤ → Option ℤ
+weight_said u = if adds u.0 then Some u.1 else None
 
--- what the last update that names an edge says of it: whether it is added; None where none names it
-abbrev pub decided : List EdgeUpdate → Edge → Option Bool
-decided [] e = None
-decided (u ∷ us) e = option_or (decided us e) (one_decided u e)
+-- what one update says of an edge
+abbrev pub one_weight_decided : EdgeUpdate × ℤ → Edge → Option (Option ℤ)
+one_weight_decided u e = if names u.0 e then Some (weight_said u) else None
+
+-- what the last update that names an edge makes of it; None if none names it
+abbrev pub decided_weight : List (EdgeUpdate × ℤ) → Edge → Option (Option ℤ)
+decided_weight [] e = None
+decided_weight (u ∷ us) e = option_or (decided_weight us e) (one_weight_decided u e)
 
 -- how many updates name an edge
 abbrev pub times : Edge → List EdgeUpdate → ℕ

@@ -1,22 +1,33 @@
-//! Updates of edges, 8 bytes each: what is to be added and removed, sorted by edge.
+//! Updates of edges: what is to be added and removed, sorted by edge.
 //!
-//! A contract sees an [`EdgeUpdate`] as a vertex, a neighbour of it and whether the edge between them
-//! is added, and a list of them as what it decides: the last update that names an edge decides on it.
-//! [`sort`] and [`keep_last`] leave that as it is, and after both the edges ascend, each once.
-//! [`transpose`] gives the same edges seen from the neighbour, and [`sort_transposed`] sorts them too: they are
-//! the other direction. [`Updates`] lends them with the weights of the edges that they add.
+//! An [`EdgeUpdate`] has 8 bytes, and adds an edge with weight 1 or removes one. A [`WeightedUpdate`] has 16
+//! bytes, and adds an edge with any weight. Both are an [`Update`]. A contract sees an update as a pair: its
+//! vertex, its neighbour and whether the edge between them is added, and the weight that the edge then has.
+//! It sees a list of updates as its decisions (`decided_weight`): the last update that names an edge decides
+//! whether the edge exists, and with which weight. [`sort`] and [`keep_last`] do not change these decisions,
+//! and after both the edges ascend, each once. [`transpose`] swaps the ends of each edge, and
+//! [`sort_transposed`] sorts the updates too: they are the other direction, in which an edge has the same
+//! weight. The compiler makes a copy of each function for each kind of update.
 //!
-//! Batches of a graph are sorted by this crate.
+//! [`Updates`] lends updates with the weights of the edges that they add, and [`Columns`] owns both.
+//!
+//! Batches of a graph are sorted by this crate: a batch in which all weights are 1 as [`EdgeUpdate`]s.
 #![tactic(auto)]
 
+mod columns;
 mod converse;
 mod edge_update;
 mod lasts;
 mod sorts;
+mod update;
 mod updates;
+mod weighted_update;
 
+pub use columns::Columns;
 pub use converse::transpose;
 pub use edge_update::EdgeUpdate;
 pub use lasts::keep_last;
-pub use sorts::{sort, sort_forked, sort_transposed};
+pub use sorts::{sort, sort_forked, sort_transposed, sort_transposed_forked};
+pub use update::Update;
 pub use updates::Updates;
+pub use weighted_update::WeightedUpdate;

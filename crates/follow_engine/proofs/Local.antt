@@ -19,7 +19,8 @@ use Rattle.kernels.specs.declared.kernel.EdgeKernel.{EdgeKernel}
 use Rattle.kernels.specs.declared.kernel.FilterKernel.{FilterKernel}
 use Rattle.kernels.specs.Kernels.{IsFilterKernel}
 use Rattle.edge_fold.specs.Folded.{AreKernels}
-use Rattle.follow_engine.specs.Local.{AgreeAt, are_local, is_local_instruction, is_local_code}
+use Rattle.kernels.specs.Local.{is_local_code, is_local_instruction}
+use Rattle.follow_engine.specs.Local.{AgreeAt, are_local}
 
 -- other vectors and other sizes
 abbrev other : CodeInput → List (List ℤ) → List ℤ → CodeInput

@@ -2,6 +2,7 @@
 use Rattle.std.specs.Prelude.{◌≡◌, ℕ, ◌≤◌, true, false, Option, Some, None, List, [], length, slice_index_or}
 use Rattle.kernels.specs.FunctionStatementTree.{FunctionStatementsTree}
 use Rattle.kernels.specs.EdgeApply.{is_member}
+use Rattle.kernels.specs.Local.{is_local_code}
 use Rattle.kernels.specs.declared.endpoint_filter.EndpointFilter.{EndpointFilter}
 use Rattle.kernels.specs.declared.endpoint_filter.EndpointFilter.TheVariants as end
 use Rattle.edge_fold.specs.Changed.{AreApart}
@@ -10,7 +11,7 @@ use Rattle.edge_differences.specs.Listed.{AreSameBut}
 use Rattle.edge_apply.specs.declared.apply.Apply.{Apply}
 use Rattle.follow_engine.specs.declared.differences.Differences.{Differences}
 use Rattle.follow_engine.specs.declared.differences.FormerApply.{FormerApply}
-use Rattle.follow_engine.specs.Local.{AgreeAt, are_local, is_local_code}
+use Rattle.follow_engine.specs.Local.{AgreeAt, are_local}
 use Rattle.follow_engine.specs.Reduced.{AreChangesReduced}
 
 -- the ends let the same vertices through but for the listed ones, or are the same filter, which reads no other vertex

@@ -1,20 +1,9 @@
 -- Functions that read entries of the two ends of an edge alone.
-use Rattle.std.specs.Prelude.{◌≡◌, ℕ, ℤ, Bool, true, false, ◌&&◌, Option, Some, None, List, [], ◌∷◌}
+use Rattle.std.specs.Prelude.{◌≡◌, ℕ, ℤ, Bool, ◌&&◌, Option, Some, None, List}
 use Rattle.std.specs.Borrow.{Bor}
-use Rattle.kernels.specs.RegisterInstruction.{RegisterInstruction}
-use Rattle.kernels.specs.RegisterInstruction.TheVariants as code
+use Rattle.kernels.specs.Local.{is_local_code}
 use Rattle.kernels.specs.Value.{entry}
 use Rattle.kernels.specs.declared.kernel.EdgeKernel.{EdgeKernel}
-
--- the instruction reads neither an entry at an index, which may be another vertex, nor the size of a set
-abbrev pub is_local_instruction : RegisterInstruction → Bool
-is_local_instruction (code.EntryAt to vector) = false
-is_local_instruction (code.Size to set) = false
-is_local_instruction i = true
-
-abbrev pub is_local_code : List RegisterInstruction → Bool
-is_local_code [] = true
-is_local_code (i ∷ is) = is_local_instruction i && is_local_code is
 
 -- the code of one kernel, or of two
 abbrev pub are_local : EdgeKernel → Option (Bor EdgeKernel) → Bool

@@ -1,6 +1,7 @@
 pub mod Kernels
 pub mod ContributionColumns
 pub mod Columns
+pub mod Local
 pub mod Shapes
 pub mod ShapePairs
 pub use Rattle.algorithm_meaning.specs.Arithmetic

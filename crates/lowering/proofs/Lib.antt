@@ -4,3 +4,4 @@ pub mod Putting
 pub mod PlanLines
 pub mod Statements
 pub mod SetsRead
+pub mod SimpleStatements

@@ -102,6 +102,7 @@ impl Lowering<'_> {
 
     /// Puts those of a statement that is done alone.
     #[cycle(lower)]
+    #[tactic(auto, using(crate::proofs::SimpleStatements::simple_plan))]
     fn put_statement(
         self,
         statement: &MainStatement,
@@ -115,6 +116,10 @@ impl Lowering<'_> {
     {
         let number = statement.number;
         match &statement.action {
+            StatementKind::Simple(simple) => {
+                self.put_simple(number, statement.label, simple, visible.depth(), code)?;
+                visible.declare_simple(simple)
+            }
             StatementKind::If(c, body) => self.put_if(number, c, body, visible, code),
             StatementKind::IfElse(c, body, other) => {
                 let branches = Branches { body, other };
@@ -128,10 +133,6 @@ impl Lowering<'_> {
                     end,
                 };
                 self.put_for(number, range, body, visible, code)
-            }
-            action => {
-                self.put_simple(statement, visible.depth(), code)?;
-                visible.declare(action)
             }
         }
     }

@@ -1,6 +1,6 @@
 //! Statements without blocks: one instruction each.
 ghost use Rattle.std.specs.Prelude.{◌≡◌, ◌++◌, ◌∷◌, [], IfOk, OnOk, length, slice_set, vec_len};
-ghost use Rattle.typed_tree.specs.BlockTree.{DeclareInt, statement_kind_tree};
+ghost use Rattle.typed_tree.specs.BlockTree.{DeclareInt, simple_statement_tree};
 ghost use Rattle.typed_tree.specs.BoolExpressionTree.{bool_expression_tree};
 ghost use Rattle.typed_tree.specs.IntExpressionTree.{int_expression_tree};
 ghost use Rattle.typed_tree.specs.ProgramTree.{program_tree};
@@ -10,7 +10,6 @@ ghost use Rattle.plans.specs.Plan.{chosen, depth_in_loop, loop_step, plain as pl
 ghost use Rattle.plan_text.specs.Expressions.{spaced};
 ghost use Rattle.plans.specs.Operation.{part_tree, IsOperation};
 ghost use Rattle.plans.specs.inside.Parts.{fused_pair_tree};
-ghost use Rattle.lowering.specs.inside.Kinds.{HasNoBlock};
 ghost use Rattle.lowering.specs.inside.Putting.{BeginsLoop, Fills, KeepsIndex, Puts};
 ghost use Rattle.lowering.specs.Text.{IsWritten, operation_words, shown_part};
 ghost use Rattle.lowering.specs.inside.Visible.{depth_of};
@@ -26,7 +25,7 @@ use plans::{
     ValueOperation,
 };
 use std::alloc::AllocError;
-use typed_tree::{BoolExpression, IntExpression, MainStatement, StatementKind};
+use typed_tree::{BoolExpression, IntExpression, MainStatement, SimpleStatement};
 
 /// The head of an instruction: the statement that it comes from, what stays visible, and what a run shows that ends there.
 #[derive(Clone, Copy)]
@@ -392,26 +391,27 @@ impl Lowering<'_> {
         visible.declare_int(name)
     }
 
-    /// Puts the instruction of a statement without a block.
+    /// Puts the instruction of a statement without a block, which has this number and this label.
     pub(crate) fn put_simple(
         self,
-        statement: &MainStatement,
+        number: u64,
+        label: Option<usize>,
+        statement: &SimpleStatement,
         depth: Depth,
         code: &mut Vec<Instruction>,
     ) -> Result<(), AllocError>
-        ensures { HasNoBlock (statement_kind_tree statement.now.action)
-            → OnOk result (Puts (program_tree self.entry.program.now) code.old.items code.new.items
-            (chosen self.entry.schedule.now statement.now.number statement.now.label depth (Do (statement_kind_tree statement.now.action)) ∷ [])) }
+        ensures { OnOk result (Puts (program_tree self.entry.program.now) code.old.items code.new.items
+            (chosen self.entry.schedule.now number label depth (Do (simple_statement_tree statement.now)) ∷ [])) }
     {
-        let apply_schedule = self.schedule.apply_schedule_at(statement.label);
+        let apply_schedule = self.schedule.apply_schedule_at(label);
         let mut words = Vec::new(self.alloc);
         Lines {
             program: self.program,
         }
-        .put_statement(&mut words, &statement.action, apply_schedule)?;
-        let operation = operation_of(self.alloc, &statement.action, depth)?;
+        .put_simple(&mut words, statement, apply_schedule)?;
+        let operation = operation_of(self.alloc, statement, depth)?;
         code.push(Instruction {
-            number: statement.number,
+            number,
             keep: depth,
             shown: depth,
             apply_schedule,

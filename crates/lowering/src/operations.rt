@@ -1,23 +1,26 @@
 //! Operations of statements without blocks, with the kernels of their expressions.
 ghost use Rattle.std.specs.Prelude.{◌≡◌, IfOk, Some};
-ghost use Rattle.typed_tree.specs.BlockTree.{ApplyVertex, AssignSet, DeclareSet, ReduceEntry, SetEntry, StatementKindTree, statement_kind_tree};
+ghost use Rattle.typed_tree.specs.BlockTree.{ApplyVertex, AssignSet, DeclareSet, ReduceEntry, SetEntry, StatementKindTree, simple_statement_tree, value_statement_tree};
 ghost use Rattle.typed_tree.specs.BoolExpressionTree.{bool_expression_tree};
 ghost use Rattle.typed_tree.specs.IntExpressionTree.{int_expression_tree};
 ghost use Rattle.kernels.specs.Kernels.{IsBoolKernel, IsIntKernel};
 ghost use Rattle.plans.specs.Fusing.{edge_apply_of};
 ghost use Rattle.plans.specs.Instruction.{Do};
 ghost use Rattle.plans.specs.Operation.{result_tree, IsFor, IsOperation};
-ghost use Rattle.lowering.specs.inside.Kinds.{HasNoBlock, value_of};
+ghost use Rattle.plans.specs.declared.operation.PlanOperation.TheVariants.{Value};
+ghost use Rattle.lowering.specs.inside.NewMembers.{value_of};
 
 use algorithm_meaning::Depth;
 use apply_options::Reduction;
 use kernels::ExpressionKernel;
 use plans::{
-    ApplyOperation, ControlOperation, EdgePart, EntryOperation, PartResult, PlanOperation,
-    SetExpression, SetOperation, ValueOperation,
+    ApplyOperation, EdgePart, EntryOperation, PartResult, PlanOperation, SetExpression,
+    SetOperation, ValueOperation,
 };
 use std::alloc::{AllocError, Global};
-use typed_tree::{ApplyEnds, BoolExpression, IntExpression, SetValue, StatementKind, VarRef};
+use typed_tree::{
+    ApplyEnds, BoolExpression, IntExpression, SetValue, SimpleStatement, ValueStatement, VarRef,
+};
 
 /// The kernel of an expression of type `int` where so much is visible.
 pub(crate) fn int_kernel(
@@ -46,65 +49,78 @@ pub(crate) fn bool_kernel(
 /// What a statement without a block does, where so much is visible.
 pub(crate) fn operation_of(
     alloc: Global,
-    action: &StatementKind,
+    statement: &SimpleStatement,
     depth: Depth,
 ) -> Result<PlanOperation, AllocError>
-    ensures { IfOk result (λ o. HasNoBlock (statement_kind_tree action.now) → IsOperation depth depth o (Do (statement_kind_tree action.now))) }
+    ensures { IfOk result (λ o. IsOperation depth depth o (Do (simple_statement_tree statement.now))) }
 {
-    match action {
-        StatementKind::DeclareInt(name, e) => {
-            let value = int_kernel(alloc, e, depth)?;
-            Ok(PlanOperation::Value(ValueOperation::DeclareInt { name: *name, value }))
+    match statement {
+        SimpleStatement::Value(statement) => {
+            let operation = value_operation(alloc, statement, depth)?;
+            Ok(PlanOperation::Value(operation))
         }
-        StatementKind::DeclareBool(name, c) => {
-            let value = bool_kernel(alloc, c, depth)?;
-            Ok(PlanOperation::Value(ValueOperation::DeclareBool { name: *name, value }))
-        }
-        StatementKind::SetInt(slot, e) => {
-            let value = int_kernel(alloc, e, depth)?;
-            Ok(PlanOperation::Value(ValueOperation::SetInt { slot: *slot, value }))
-        }
-        StatementKind::SetBool(slot, c) => {
-            let value = bool_kernel(alloc, c, depth)?;
-            Ok(PlanOperation::Value(ValueOperation::SetBool { slot: *slot, value }))
-        }
-        StatementKind::ReduceInt(slot, reduction, e) => {
-            let value = int_kernel(alloc, e, depth)?;
-            Ok(PlanOperation::Value(ValueOperation::ReduceInt {
-                slot: *slot,
-                reduction: *reduction,
-                value,
-            }))
-        }
-        StatementKind::AddVertex(slot, e) => {
-            let vertex = int_kernel(alloc, e, depth)?;
-            Ok(PlanOperation::Value(ValueOperation::AddVertex {
-                slot: *slot,
-                vertex,
-            }))
-        }
-        StatementKind::PrintInt(e) => {
-            let value = int_kernel(alloc, e, depth)?;
-            Ok(PlanOperation::Value(ValueOperation::PrintInt { value }))
-        }
-        StatementKind::PrintBool(c) => {
-            let value = bool_kernel(alloc, c, depth)?;
-            Ok(PlanOperation::Value(ValueOperation::PrintBool { value }))
-        }
-        StatementKind::SetEntry(vector, index, e) => set_entry(alloc, *vector, index, e, depth),
-        StatementKind::ReduceEntry(vector, index, reduction, e) => {
+        SimpleStatement::SetEntry(vector, index, e) => set_entry(alloc, *vector, index, e, depth),
+        SimpleStatement::ReduceEntry(vector, index, reduction, e) => {
             reduce_entry(alloc, *vector, index, *reduction, e, depth)
         }
-        StatementKind::DeclareSet(name, value) => Ok(declare_set(*name, *value)),
-        StatementKind::AssignSet(slot, value) => Ok(assign_set(*slot, *value)),
-        StatementKind::ApplyVertex(set, function) => Ok(apply_vertices(*set, *function)),
-        StatementKind::ApplyEdges(ends, function) => {
+        SimpleStatement::DeclareSet(name, value) => Ok(declare_set(*name, *value)),
+        SimpleStatement::AssignSet(slot, value) => Ok(assign_set(*slot, *value)),
+        SimpleStatement::ApplyVertex(set, function) => Ok(apply_vertices(*set, *function)),
+        SimpleStatement::ApplyEdges(ends, function) => {
             Ok(apply_edges(*ends, *function, PartResult::Dropped))
         }
-        StatementKind::If(_, _)
-        | StatementKind::IfElse(_, _, _)
-        | StatementKind::While(_, _)
-        | StatementKind::For(_, _, _, _) => Ok(PlanOperation::Control(ControlOperation::End)),
+    }
+}
+
+/// What a statement that takes a value does, where so much is visible.
+fn value_operation(
+    alloc: Global,
+    statement: &ValueStatement,
+    depth: Depth,
+) -> Result<ValueOperation, AllocError>
+    ensures { IfOk result (λ o. IsOperation depth depth (Value o) (Do (value_statement_tree statement.now))) }
+{
+    match statement {
+        ValueStatement::DeclareInt(name, e) => {
+            let value = int_kernel(alloc, e, depth)?;
+            Ok(ValueOperation::DeclareInt { name: *name, value })
+        }
+        ValueStatement::DeclareBool(name, c) => {
+            let value = bool_kernel(alloc, c, depth)?;
+            Ok(ValueOperation::DeclareBool { name: *name, value })
+        }
+        ValueStatement::SetInt(slot, e) => {
+            let value = int_kernel(alloc, e, depth)?;
+            Ok(ValueOperation::SetInt { slot: *slot, value })
+        }
+        ValueStatement::SetBool(slot, c) => {
+            let value = bool_kernel(alloc, c, depth)?;
+            Ok(ValueOperation::SetBool { slot: *slot, value })
+        }
+        ValueStatement::ReduceInt(slot, reduction, e) => {
+            let (slot, reduction) = (*slot, *reduction);
+            let value = int_kernel(alloc, e, depth)?;
+            Ok(ValueOperation::ReduceInt {
+                slot,
+                reduction,
+                value,
+            })
+        }
+        ValueStatement::AddVertex(slot, e) => {
+            let vertex = int_kernel(alloc, e, depth)?;
+            Ok(ValueOperation::AddVertex {
+                slot: *slot,
+                vertex,
+            })
+        }
+        ValueStatement::PrintInt(e) => {
+            let value = int_kernel(alloc, e, depth)?;
+            Ok(ValueOperation::PrintInt { value })
+        }
+        ValueStatement::PrintBool(c) => {
+            let value = bool_kernel(alloc, c, depth)?;
+            Ok(ValueOperation::PrintBool { value })
+        }
     }
 }
 

@@ -1,13 +1,13 @@
 //! Visible variables: how many of each kind a statement sees.
 ghost use Rattle.std.specs.Prelude.{◌≡◌, IfOk, OnOk, length};
-ghost use Rattle.typed_tree.specs.BlockTree.{statement_kind_tree};
+ghost use Rattle.typed_tree.specs.BlockTree.{simple_statement_tree, statement_kind_tree};
 ghost use Rattle.plans.specs.inside.Plan.{IsWithin};
 ghost use Rattle.plans.specs.Plan.{depth_after, depth_with_integer};
 ghost use Rattle.lowering.specs.inside.Visible.{depth_of};
 
 use algorithm_meaning::Depth;
 use std::alloc::{AllocError, Global};
-use typed_tree::StatementKind;
+use typed_tree::{SimpleStatement, StatementKind, ValueStatement};
 
 /// The names of the variables and vertex sets of `main` that are visible, by their indices. They are counted by lists, so
 /// that a count never overflows.
@@ -47,9 +47,23 @@ impl Visible {
         ensures { OnOk result (depth_of self.new ≡ depth_after (statement_kind_tree action.now) (depth_of self.old)) }
     {
         match action {
-            StatementKind::DeclareInt(name, _) => self.integers.push(*name)?,
-            StatementKind::DeclareBool(name, _) => self.conditions.push(*name)?,
-            StatementKind::DeclareSet(name, _) => self.sets.push(*name)?,
+            StatementKind::Simple(statement) => self.declare_simple(statement),
+            _ => Ok(()),
+        }
+    }
+
+    /// With what a statement without a block declares.
+    pub(crate) fn declare_simple(&mut self, statement: &SimpleStatement) -> Result<(), AllocError>
+        ensures { OnOk result (depth_of self.new ≡ depth_after (simple_statement_tree statement.now) (depth_of self.old)) }
+    {
+        match statement {
+            SimpleStatement::Value(ValueStatement::DeclareInt(name, _)) => {
+                self.integers.push(*name)?
+            }
+            SimpleStatement::Value(ValueStatement::DeclareBool(name, _)) => {
+                self.conditions.push(*name)?
+            }
+            SimpleStatement::DeclareSet(name, _) => self.sets.push(*name)?,
             _ => {}
         }
         Ok(())

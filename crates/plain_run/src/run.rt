@@ -1,14 +1,13 @@
 //! The slow run of programs.
 ghost use Rattle.std.specs.Prelude.{◌≡◌, ◌<◌, ◌≤◌, ℕ, [], ◌∷◌, IfOk, IfNone, OnOk};
 ghost use Rattle.typed_tree.specs.BoolExpressionTree.{bool_expression_tree};
-ghost use Rattle.typed_tree.specs.BlockTree.{statement_kind_tree, block_tree};
+ghost use Rattle.typed_tree.specs.BlockTree.{statement_kind_tree, simple_statement_tree, value_statement_tree, block_tree};
 ghost use Rattle.typed_tree.specs.ProgramTree.{program_tree};
 ghost use Rattle.algorithm_meaning.specs.EdgeApply.{after_edge_apply};
 ghost use Rattle.algorithm_meaning.specs.Statements.{with_vectors};
 ghost use Rattle.algorithm_meaning.specs.Loop.{after_for, after_while, for_body, inside, take_turn};
 ghost use Rattle.algorithm_meaning.specs.Meaning.{after, after_all, meaning};
-ghost use Rattle.plain_run.specs.inside.Seen.{HasNoBlock, IsOverSets, graph_of, stand, state_of};
-ghost use Rattle.algorithm_meaning.specs.Stand.{Live};
+ghost use Rattle.plain_run.specs.inside.Seen.{graph_of, stand, state_of};
 
 use crate::edge_apply::apply_edges;
 use crate::entries::{reduce_entry, set_entry_in};
@@ -22,7 +21,9 @@ use crate::variables::{declare_bool, declare_int, reduce_int, set_bool, set_int}
 use crate::vertex_apply::apply_vertex;
 use algorithm_meaning::{End, LoopCounter, Outcome};
 use std::alloc::{AllocError, Global};
-use typed_tree::{ApplyEnds, BoolExpression, MainStatement, StatementKind, Typed};
+use typed_tree::{
+    ApplyEnds, BoolExpression, MainStatement, SimpleStatement, StatementKind, Typed, ValueStatement,
+};
 
 /// Runs a program on a graph, whose vertices are the numbers below `vertices`, and gives what it means:
 /// it goes over the trees, one statement after the other, and is slow. The loops of the program make at
@@ -85,6 +86,7 @@ fn run_statement(
     let number = statement.number;
     let vertices = input.graph.vertices;
     match &statement.action {
+        StatementKind::Simple(simple) => run_simple(alloc, simple, number, input, state),
         StatementKind::If(c, body) => match decide(c, vertices, state) {
             None => Ok(fault(number)),
             Some(true) => run_inside(alloc, body, input, state),
@@ -100,85 +102,80 @@ fn run_statement(
             None => Ok(fault(number)),
             Some(counter) => run_for(alloc, body, counter, number, input, state),
         },
-        action => run_without_block(alloc, action, number, input, state),
     }
 }
 
-/// Runs a statement that has no block.
-fn run_without_block(
+/// Runs a statement without a block.
+fn run_simple(
     alloc: Global,
-    action: &StatementKind,
+    statement: &SimpleStatement,
     number: u64,
     input: RunInput<'_>,
     state: &mut InterpreterState,
 ) -> Result<Option<End>, AllocError>
-    requires { HasNoBlock action.now }
     ensures meaning { IfOk result (λ end. stand end (state_of state.new)
-        ≡ after (program_tree input.entry.program.now) (graph_of input.entry.graph.now) number (statement_kind_tree action.now) (state_of state.old)) }
+        ≡ after (program_tree input.entry.program.now) (graph_of input.entry.graph.now) number (simple_statement_tree statement.now) (state_of state.old)) }
     ensures turns { state.new.turns ≡ state.old.turns }
 {
     let context = StatementContext {
         number,
         vertices: input.graph.vertices,
     };
-    match action {
-        StatementKind::DeclareInt(_, e) => declare_int(e, context, state),
-        StatementKind::DeclareBool(_, c) => declare_bool(c, context, state),
-        StatementKind::SetInt(slot, e) => Ok(set_int(slot.index, e, context, state)),
-        StatementKind::SetBool(slot, c) => Ok(set_bool(slot.index, c, context, state)),
-        StatementKind::ReduceInt(slot, reduction, e) => Ok(reduce_int(
-            slot.index, *reduction, e, context, state,
-        )),
-        StatementKind::SetEntry(vector, subscript, e) => {
+    match statement {
+        SimpleStatement::Value(statement) => run_value(alloc, statement, number, input, state),
+        SimpleStatement::SetEntry(vector, subscript, e) => {
             Ok(set_entry_in(*vector, subscript, e, context, state))
         }
-        StatementKind::ReduceEntry(vector, subscript, reduction, e) => Ok(reduce_entry(
+        SimpleStatement::ReduceEntry(vector, subscript, reduction, e) => Ok(reduce_entry(
             *vector, subscript, *reduction, e, context, state,
         )),
-        StatementKind::AddVertex(slot, e) => add_vertex(alloc, slot.index, e, context, state),
-        StatementKind::PrintInt(e) => print_int_in(e, context, state),
-        StatementKind::PrintBool(c) => print_bool_in(c, context, state),
-        StatementKind::DeclareSet(_, _)
-        | StatementKind::AssignSet(_, _)
-        | StatementKind::ApplyVertex(_, _)
-        | StatementKind::ApplyEdges(_, _) => {
-            run_over_sets(alloc, action, input, state)?;
+        SimpleStatement::DeclareSet(name, value) => {
+            declare_set(alloc, *name, *value, input, state)?;
             Ok(None)
         }
-        StatementKind::If(_, _)
-        | StatementKind::IfElse(_, _, _)
-        | StatementKind::While(_, _)
-        | StatementKind::For(_, _, _, _) => { unreachable!() }
+        SimpleStatement::AssignSet(slot, value) => {
+            assign_set(alloc, slot.index, *value, input, state)?;
+            Ok(None)
+        }
+        SimpleStatement::ApplyVertex(set, function) => {
+            let functions = &input.program.vertex_functions;
+            apply_vertex(alloc, functions, set.index, *function, state)?;
+            Ok(None)
+        }
+        SimpleStatement::ApplyEdges(ends, function) => {
+            apply_in(alloc, *ends, *function, input, state)?;
+            Ok(None)
+        }
     }
 }
 
-/// Runs a statement that makes a set or goes over one. It never faults.
-fn run_over_sets(
+/// Runs a statement that takes a value.
+fn run_value(
     alloc: Global,
-    action: &StatementKind,
+    statement: &ValueStatement,
+    number: u64,
     input: RunInput<'_>,
     state: &mut InterpreterState,
-) -> Result<(), AllocError>
-    requires { IsOverSets action.now }
-    ensures meaning { OnOk result ((number : ℕ) → Live (state_of state.new)
-        ≡ after (program_tree input.entry.program.now) (graph_of input.entry.graph.now) number (statement_kind_tree action.now) (state_of state.old)) }
+) -> Result<Option<End>, AllocError>
+    ensures meaning { IfOk result (λ end. stand end (state_of state.new)
+        ≡ after (program_tree input.entry.program.now) (graph_of input.entry.graph.now) number (value_statement_tree statement.now) (state_of state.old)) }
     ensures turns { state.new.turns ≡ state.old.turns }
 {
-    match action {
-        StatementKind::DeclareSet(name, value) => {
-            declare_set(alloc, *name, *value, input, state)
-        }
-        StatementKind::AssignSet(slot, value) => {
-            assign_set(alloc, slot.index, *value, input, state)
-        }
-        StatementKind::ApplyVertex(set, function) => {
-            let functions = &input.program.vertex_functions;
-            apply_vertex(alloc, functions, set.index, *function, state)
-        }
-        StatementKind::ApplyEdges(ends, function) => {
-            apply_in(alloc, *ends, *function, input, state)
-        }
-        _ => { unreachable!() }
+    let context = StatementContext {
+        number,
+        vertices: input.graph.vertices,
+    };
+    match statement {
+        ValueStatement::DeclareInt(_, e) => declare_int(e, context, state),
+        ValueStatement::DeclareBool(_, c) => declare_bool(c, context, state),
+        ValueStatement::SetInt(slot, e) => Ok(set_int(slot.index, e, context, state)),
+        ValueStatement::SetBool(slot, c) => Ok(set_bool(slot.index, c, context, state)),
+        ValueStatement::ReduceInt(slot, reduction, e) => Ok(reduce_int(
+            slot.index, *reduction, e, context, state,
+        )),
+        ValueStatement::AddVertex(slot, e) => add_vertex(alloc, slot.index, e, context, state),
+        ValueStatement::PrintInt(e) => print_int_in(e, context, state),
+        ValueStatement::PrintBool(c) => print_bool_in(c, context, state),
     }
 }
 

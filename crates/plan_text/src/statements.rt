@@ -1,12 +1,11 @@
 //! Instructions as words.
 ghost use Rattle.std.specs.Prelude.{◌≡◌, ◌++◌, ◌∷◌, [], map, codes, OnOk};
-ghost use Rattle.typed_tree.specs.BlockTree.{statement_kind_tree};
+ghost use Rattle.typed_tree.specs.BlockTree.{simple_statement_tree, value_statement_tree};
 ghost use Rattle.typed_tree.specs.BoolExpressionTree.{bool_expression_tree};
 ghost use Rattle.typed_tree.specs.IntExpressionTree.{int_expression_tree};
 ghost use Rattle.typed_tree.specs.ProgramTree.{program_tree};
 ghost use Rattle.plan_text.specs.Expressions.{condition_words, integer_words, program_name_at, bracketed, spaced};
 ghost use Rattle.plan_text.specs.Lines.{advance_words, below_words, bound_words, end_name, put_words, reducing_word, reduction_word, set_instruction_words, set_words, statement_words, unless_words, vertices_words};
-ghost use Rattle.plan_text.specs.inside.Statements.{TakesValues};
 ghost use Rattle.apply_options.specs.declared.apply_schedule.ApplySchedule.{ApplySchedule};
 
 use crate::applied_function::{AppliedFunction, ChangedSet};
@@ -15,73 +14,70 @@ use crate::names::Lines;
 use crate::words::{close_bracket, open_bracket, put_marked, put_word};
 use apply_options::{ApplySchedule, Reduction};
 use std::alloc::AllocError;
-use typed_tree::{BoolExpression, IntExpression, SetValue, StatementKind, VarRef};
+use typed_tree::{
+    BoolExpression, IntExpression, SetValue, SimpleStatement, ValueStatement, VarRef,
+};
 
 impl Lines<'_> {
-    /// Puts the words of a statement without a block, an apply as the schedule says; none for one with a block. The only
-    /// error is out of memory.
-    pub fn put_statement(
+    /// Puts the words of a statement without a block, an apply as the schedule says. The only error is out of memory.
+    pub fn put_simple(
         self,
         out: &mut Vec<u8>,
-        action: &StatementKind,
+        statement: &SimpleStatement,
         apply_schedule: ApplySchedule,
     ) -> Result<(), AllocError>
         ensures { OnOk result (out.new.items ≡ out.old.items
-            ++ spaced (statement_words (program_tree self.entry.program.now) (statement_kind_tree action.now) apply_schedule)) }
+            ++ spaced (statement_words (program_tree self.entry.program.now) (simple_statement_tree statement.now) apply_schedule)) }
     {
-        match action {
-            StatementKind::DeclareSet(name, value) => self.put_set(
+        match statement {
+            SimpleStatement::Value(statement) => self.put_value(out, statement),
+            SimpleStatement::SetEntry(vector, index, e) => {
+                self.put_put(out, *vector, index, b"=", e)
+            }
+            SimpleStatement::ReduceEntry(vector, index, reduction, e) => {
+                self.put_put(out, *vector, index, reduction_text(*reduction), e)
+            }
+            SimpleStatement::DeclareSet(name, value) => self.put_set(
                 out,
                 *name,
                 *value,
                 apply_schedule,
             ),
-            StatementKind::AssignSet(slot, value) => self.put_set(
+            SimpleStatement::AssignSet(slot, value) => self.put_set(
                 out,
                 slot.name,
                 *value,
                 apply_schedule,
             ),
-            StatementKind::ApplyVertex(set, function) => self.put_vertices(
+            SimpleStatement::ApplyVertex(set, function) => self.put_vertices(
                 out, *set, *function, None,
             ),
-            StatementKind::ApplyEdges(ends, function) => {
+            SimpleStatement::ApplyEdges(ends, function) => {
                 let part = AppliedFunction {
                     function: *function,
                     changed: None,
                 };
                 self.put_edges(out, *ends, part, None, apply_schedule)
             }
-            StatementKind::If(_, _)
-            | StatementKind::IfElse(_, _, _)
-            | StatementKind::While(_, _)
-            | StatementKind::For(_, _, _, _) => Ok(()),
-            _ => self.put_values(out, action),
         }
     }
 
-    /// Puts the words of a statement that takes values of expressions, and has no block.
-    fn put_values(self, out: &mut Vec<u8>, action: &StatementKind) -> Result<(), AllocError>
-        requires { TakesValues action.now }
+    /// Puts the words of a statement that takes a value.
+    fn put_value(self, out: &mut Vec<u8>, statement: &ValueStatement) -> Result<(), AllocError>
         ensures { (apply_schedule : ApplySchedule) → OnOk result (out.new.items ≡ out.old.items
-            ++ spaced (statement_words (program_tree self.entry.program.now) (statement_kind_tree action.now) apply_schedule)) }
+            ++ spaced (statement_words (program_tree self.entry.program.now) (value_statement_tree statement.now) apply_schedule)) }
     {
-        match action {
-            StatementKind::DeclareInt(name, e) => self.put_set_integer(out, *name, e),
-            StatementKind::DeclareBool(name, c) => self.put_set_condition(out, *name, c),
-            StatementKind::SetInt(slot, e) => self.put_set_integer(out, slot.name, e),
-            StatementKind::SetBool(slot, c) => self.put_set_condition(out, slot.name, c),
-            StatementKind::ReduceInt(slot, reduction, e) => {
+        match statement {
+            ValueStatement::DeclareInt(name, e) => self.put_set_integer(out, *name, e),
+            ValueStatement::DeclareBool(name, c) => self.put_set_condition(out, *name, c),
+            ValueStatement::SetInt(slot, e) => self.put_set_integer(out, slot.name, e),
+            ValueStatement::SetBool(slot, c) => self.put_set_condition(out, slot.name, c),
+            ValueStatement::ReduceInt(slot, reduction, e) => {
                 self.put_reduction(out, slot.name, *reduction, e)
             }
-            StatementKind::SetEntry(vector, index, e) => self.put_put(out, *vector, index, b"=", e),
-            StatementKind::ReduceEntry(vector, index, reduction, e) => {
-                self.put_put(out, *vector, index, reduction_text(*reduction), e)
-            }
-            StatementKind::AddVertex(slot, e) => self.put_add_vertex(out, slot.name, e),
-            StatementKind::PrintInt(e) => self.put_print(out, e),
-            StatementKind::PrintBool(c) => self.put_condition_after(out, b"print", c),
-            _ => unreachable!(),
+            ValueStatement::AddVertex(slot, e) => self.put_add_vertex(out, slot.name, e),
+            ValueStatement::PrintInt(e) => self.put_print(out, e),
+            ValueStatement::PrintBool(c) => self.put_condition_after(out, b"print", c),
         }
     }
 

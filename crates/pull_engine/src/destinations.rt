@@ -15,8 +15,8 @@ ghost use Rattle.pull_engine.specs.inside.Lets.{IsInBits, lets};
 ghost use Rattle.pull_engine.specs.inside.Words.{in_word};
 ghost use Rattle.edge_apply.specs.Words.{passes_words};
 
-use crate::block_lists::BlockLists;
 use crate::block_ranges::{blocks_below, range_word};
+use crate::blocks::present_in;
 use crate::destination_words::DestinationWords;
 use crate::ranges::PullRange;
 use crate::source_block::SourceBlock;
@@ -36,13 +36,6 @@ pub(crate) struct ColumnInput<'a> {
     pub(crate) from: Option<&'a [u64]>,
 }
 
-/// What the column of one destination is folded of.
-#[derive(Clone, Copy)]
-struct DestinationInput<'a> {
-    columns: ColumnInput<'a>,
-    destination: u32,
-}
-
 /// Folds the edges to those vertices of a range that pass, in place of what was folded before. It goes over blocks of 64
 /// vertices, each with a word for those that are destinations. The only error is out of memory.
 pub(crate) fn fold_range(
@@ -57,23 +50,6 @@ pub(crate) fn fold_range(
 {
     let to = range.destinations(alloc, scratch)?;
     scratch.begin();
-    fold_words(alloc, range, &to, scratch)
-}
-
-/// Folds the edges to the vertices of a range that words let through.
-fn fold_words(
-    alloc: Global,
-    range: PullRange<'_>,
-    to: &DestinationWords<'_>,
-    scratch: &mut Scratch,
-) -> Result<(), AllocError>
-    requires order { range.low ≤ range.high }
-    requires bits { IsInBits to.now }
-    ensures { OnOk result ((m : StateValue) (steps : List FunctionStatementsTree) (edges : List Edge) → IsContextOf range.entry.context m steps
-        → HasFolded range.entry.context m steps edges scratch.old
-        → HasFolded range.entry.context m steps (edges ++ columns (passes_words range.entry.from) range.entry.flat.now.edges
-        (filter (lets to.now) (range_with_len range.entry.low (range.entry.high - range.entry.low)))) scratch.new) }
-{
     let input = ColumnInput {
         flat: range.flat,
         context: range.context,
@@ -107,7 +83,7 @@ fn fold_block(
     let Some(found) = input.flat.in_block(block) else {
         return Ok(());
     };
-    let mut left = word & BlockLists::of(found).present();
+    let mut left = word & present_in(found);
     'vertices: while left != 0 {
         let destination = block * BLOCK_SIZE + left.trailing_zeros();
         left &= left - 1;
@@ -116,7 +92,7 @@ fn fold_block(
     Ok(())
 }
 
-/// Folds the edges to a destination. Whether weights count is asked once for all its sources.
+/// Folds the edges to a destination.
 #[inline]
 fn fold_column(
     alloc: Global,
@@ -130,128 +106,68 @@ fn fold_column(
         → HasFolded input.entry.context m steps (edges ++ column destination
         (passing (passes_words input.entry.from) (sources_of destination input.entry.flat.now.edges))) scratch.new) }
 {
-    let sources = input.flat.in_set(destination).into_form();
-    if input.context.weighted {
-        let one = DestinationInput {
-            columns: input,
-            destination,
-        };
-        let (block, weights) = (&mut room.sources, &mut room.weights);
-        return fold_weighted_sources(alloc, one, sources, block, weights, scratch);
-    }
-    fold_sources(
-        alloc,
-        input,
-        sources,
-        destination,
-        &mut room.sources,
-        scratch,
-    )
-}
-
-/// Folds the edges from these sources to a destination if no function reads weights: none is looked at.
-#[inline]
-fn fold_sources(
-    alloc: Global,
-    input: ColumnInput<'_>,
-    sources: NeighbourForm<'_>,
-    destination: u32,
-    block: &mut [u32],
-    scratch: &mut Scratch,
-) -> Result<(), AllocError>
-    requires unweighted { input.context.weighted ≡ false }
-    requires block { length block.old ≡ PAIRS }
-    ensures { OnOk result ((m : StateValue) (steps : List FunctionStatementsTree) (edges : List Edge) → IsContextOf input.entry.context m steps
-        → HasFolded input.entry.context m steps edges scratch.old
-        → HasFolded input.entry.context m steps (edges ++ column destination (passing (passes_words input.entry.from) (listed sources.entry))) scratch.new) }
-{
-    match sources {
+    match input.flat.in_set(destination).into_form() {
         NeighbourForm::Packed(list) => {
-            fold_walk(alloc, input, list.ascending(), destination, block, scratch)
+            fold_walk(alloc, input, list.ascending(), destination, room, scratch)
         }
         NeighbourForm::Chunked(set) => {
-            fold_walk(alloc, input, SetWalk::new(set), destination, block, scratch)
+            fold_walk(alloc, input, SetWalk::new(set), destination, room, scratch)
         }
     }
 }
 
-/// Folds the edges from the sources of a walk to a destination.
+/// Folds the edges from the sources of a walk to a destination. Whether a function reads weights is asked once for all sources: if
+/// none does, no weight is read.
 #[inline]
 fn fold_walk<W: NeighbourWalk + Drop>(
     alloc: Global,
     input: ColumnInput<'_>,
     mut walk: W,
     destination: u32,
-    block: &mut [u32],
+    room: &mut SourceBlock,
     scratch: &mut Scratch,
 ) -> Result<(), AllocError>
-    requires unweighted { input.context.weighted ≡ false }
-    requires block { length block.old ≡ PAIRS }
     ensures { OnOk result ((m : StateValue) (steps : List FunctionStatementsTree) (edges : List Edge) → IsContextOf input.entry.context m steps
         → HasFolded input.entry.context m steps edges scratch.old
         → HasFolded input.entry.context m steps (edges ++ column destination (passing (passes_words input.entry.from) (W.coming walk))) scratch.new) }
 {
+    if input.context.weighted {
+        return fold_weighted_walk(alloc, input, walk, destination, room, scratch);
+    }
     'rounds: while walk.len() > 0 {
-        let count = walk.fill(block);
-        let kept = keep_members(input.from, block, count);
-        scratch.fold_into(alloc, input.context, &block[..kept], destination)?;
+        let count = walk.fill(&mut room.sources);
+        let kept = keep_members(input.from, &mut room.sources, count);
+        scratch.fold_into(alloc, input.context, &room.sources[..kept], destination)?;
     }
     Ok(())
-}
-
-/// Folds the edges from these sources to a destination, with their weights, if a function reads weights.
-fn fold_weighted_sources(
-    alloc: Global,
-    input: DestinationInput<'_>,
-    sources: NeighbourForm<'_>,
-    block: &mut [u32],
-    weights: &mut [i64],
-    scratch: &mut Scratch,
-) -> Result<(), AllocError>
-    requires weighted { input.columns.context.weighted ≡ true }
-    requires block { length block.old ≡ PAIRS }
-    requires weights { length weights.old ≡ PAIRS }
-    ensures { OnOk result ((m : StateValue) (steps : List FunctionStatementsTree) (edges : List Edge) → IsContextOf input.entry.columns.context m steps
-        → HasFolded input.entry.columns.context m steps edges scratch.old
-        → HasFolded input.entry.columns.context m steps
-        (edges ++ column input.entry.destination (passing (passes_words input.entry.columns.from) (listed sources.entry))) scratch.new) }
-{
-    match sources {
-        NeighbourForm::Packed(list) => {
-            let walk = list.ascending();
-            fold_weighted_walk(alloc, input, walk, block, weights, scratch)
-        }
-        NeighbourForm::Chunked(set) => {
-            let walk = SetWalk::new(set);
-            fold_weighted_walk(alloc, input, walk, block, weights, scratch)
-        }
-    }
 }
 
 /// Folds the edges from the sources of a walk to a destination, with their weights.
 #[inline]
 fn fold_weighted_walk<W: NeighbourWalk + Drop>(
     alloc: Global,
-    input: DestinationInput<'_>,
+    input: ColumnInput<'_>,
     mut walk: W,
-    block: &mut [u32],
-    weights: &mut [i64],
+    destination: u32,
+    room: &mut SourceBlock,
     scratch: &mut Scratch,
 ) -> Result<(), AllocError>
-    requires weighted { input.columns.context.weighted ≡ true }
-    requires block { length block.old ≡ PAIRS }
-    requires weights { length weights.old ≡ PAIRS }
-    ensures { OnOk result ((m : StateValue) (steps : List FunctionStatementsTree) (edges : List Edge) → IsContextOf input.entry.columns.context m steps
-        → HasFolded input.entry.columns.context m steps edges scratch.old
-        → HasFolded input.entry.columns.context m steps
-        (edges ++ column input.entry.destination (passing (passes_words input.entry.columns.from) (W.coming walk))) scratch.new) }
+    requires { input.context.weighted ≡ true }
+    ensures { OnOk result ((m : StateValue) (steps : List FunctionStatementsTree) (edges : List Edge) → IsContextOf input.entry.context m steps
+        → HasFolded input.entry.context m steps edges scratch.old
+        → HasFolded input.entry.context m steps (edges ++ column destination (passing (passes_words input.entry.from) (W.coming walk))) scratch.new) }
 {
     'rounds: while walk.len() > 0 {
-        let count = walk.fill_weighted(block, weights);
-        let kept = keep_members_weighted(input.columns.from, block, weights, count);
-        let lent = &weights[..kept];
-        let context = input.columns.context;
-        scratch.fold_into_weighted(alloc, context, &block[..kept], lent, input.destination)?;
+        let count = walk.fill_weighted(&mut room.sources, &mut room.weights);
+        let kept = keep_members_weighted(input.from, &mut room.sources, &mut room.weights, count);
+        let lent = &room.weights[..kept];
+        scratch.fold_into_weighted(
+            alloc,
+            input.context,
+            &room.sources[..kept],
+            lent,
+            destination,
+        )?;
     }
     Ok(())
 }

@@ -16,7 +16,7 @@
 //!
 //! One function that gives a vector by its sources, or by an entry of theirs with the weight, in one of the shapes of
 //! `kernels`, needs no scratch. One loop is made for it (`blocks.rt`): the entry of a destination is reduced with the numbers
-//! of its sources, packed ones by index in a loop for each width (`list_folds.rt`), and if that is another number, a change is
+//! of its sources, packed ones by index in a loop for each width (`all_sources.rt`), and if that is another number, a change is
 //! added to an ascending list. If one source decides ([`one_source_decides`]), the walk over the sources ends there: downward
 //! for the greatest source, upward for the least, and at the first for a number that all sources give. So breadth-first search
 //! reads of each vertex that it has not reached only the sources up to the first in the frontier, as the bottom-up step of
@@ -31,7 +31,7 @@
 //! Push and pull are those of Ligra's edge map (Shun, Blelloch, PPoPP 2013).
 #![tactic(auto)]
 
-mod block_lists;
+mod all_sources;
 mod block_ranges;
 mod blocks;
 mod changes;
@@ -42,9 +42,7 @@ mod destinations;
 mod early_sources;
 mod entry_tests;
 mod in_degrees;
-mod list_folds;
 mod listed;
-mod masked_sources;
 mod masks;
 mod pieces;
 mod ranges;

@@ -3,7 +3,7 @@ ghost use Rattle.std.specs.Prelude.{IfOk};
 ghost use Rattle.edge_apply.specs.Words.{passes_words};
 ghost use Rattle.pull_engine.specs.inside.Masked.{IsMaskOf};
 
-use crate::masked_sources::masked_numbers;
+use crate::all_sources::masked_numbers;
 use apply_options::Reduction;
 use edge_apply::Apply;
 use edge_fold::{OneNumber, OwnEntry, OwnEntryPlus, OwnNumber};

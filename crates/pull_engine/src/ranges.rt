@@ -103,23 +103,6 @@ pub(crate) fn pull_range<F: SourceFold>(
     ensures { IfOk result (λ cs. IsRangePulled range.entry vector (F.reduction fold.now) (F.number fold.now) cs.items) }
 {
     let to = range.destinations(alloc, scratch)?;
-    pull_words(alloc, range, vector, &to, fold)
-}
-
-/// What a pull changes at the vertices of the range that words let through.
-fn pull_words<F: SourceFold>(
-    alloc: Global,
-    range: PullRange<'_>,
-    vector: usize,
-    to: &DestinationWords<'_>,
-    fold: &F,
-) -> Result<Vec<EntryChange>, AllocError>
-    requires order { range.low ≤ range.high }
-    requires bits { IsInBits to.now }
-    requires end { IsRangeEnd range (lets to.now) }
-    requires serves { F.serves fold.now (passes_words range.from) }
-    ensures { IfOk result (λ cs. IsRangePulled range.entry vector (F.reduction fold.now) (F.number fold.now) cs.items) }
-{
     let pull = BlockPull {
         flat: range.flat,
         old: range.context.vectors.lane(vector),

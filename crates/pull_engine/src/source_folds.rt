@@ -10,13 +10,12 @@ ghost use Rattle.kernels.specs.declared.columns.TheConstants.{PAIRS};
 
 use crate::chosen_sources::fold_chosen;
 use crate::early_sources::{first_chunked, first_packed, last_chunked, last_packed};
-use crate::list_folds::fold_list;
 use crate::source_block::SourceBlock;
 use algorithm_meaning::reduce;
 use apply_options::Reduction;
 use edge_apply::{keep_members, keep_members_weighted};
 use edge_fold::{EntryWith, SourceNumbers, reduce_columns, reduce_sources};
-use vertex_blocks::{CTree, NeighbourForm, NeighbourSet, NeighbourWalk, Neighbours, SetWalk};
+use vertex_blocks::{CTree, NeighbourWalk, Neighbours, SetWalk};
 
 /// An entry, reduced with the numbers of sources, by the sources and the weights of their edges.
 pub(crate) trait SourceFold {
@@ -48,23 +47,6 @@ pub(crate) trait SourceFold {
     ) -> i64
         requires { serves self.now (passes_words from) }
         ensures { result ≡ reduced_over (reduction self.now) (number self.now) old (passing (passes_words from.entry) sources.now.entries) };
-
-    /// The entry reduced with the numbers of those sources whose bits are set, in either form.
-    fn fold(
-        &self,
-        old: i64,
-        sources: NeighbourSet<'_>,
-        from: Option<&[u64]>,
-        block: &mut SourceBlock,
-    ) -> i64
-        requires { serves self.now (passes_words from) }
-        ensures { result ≡ reduced_over (reduction self.now) (number self.now) old (passing (passes_words from.entry) sources.entry) }
-    {
-        match sources.into_form() {
-            NeighbourForm::Packed(list) => self.fold_packed(old, list, from, block),
-            NeighbourForm::Chunked(set) => self.fold_chunked(old, set, from, block),
-        }
-    }
 }
 
 /// The greatest source: the walk goes downward, and ends at the first that passes.
@@ -81,13 +63,6 @@ pub(crate) struct OneForAny {
     pub(crate) reduction: Reduction,
     pub(crate) number: i64,
     ghost once: { CountsOnce reduction },
-}
-
-/// A number of each source, whatever the weight: the walk goes over all, by index where they are packed, and else in blocks.
-#[derive(Drop)]
-pub(crate) struct AllSources<N> {
-    pub(crate) reduction: Reduction,
-    pub(crate) numbers: N,
 }
 
 /// An entry of each source with the weight of its edge: it goes over all, in blocks, and reads the weights, in a packed list
@@ -195,44 +170,6 @@ impl SourceFold for OneForAny {
     ) -> i64 {
         let source = first_chunked(SetWalk::new(sources), from);
         reduce_number(self.reduction, self.number, old, source)
-    }
-}
-
-impl<N: SourceNumbers> SourceFold for AllSources<N> {
-    ghost reduction = { λ f. f.reduction };
-
-    ghost number = { λ f s _. N.number f.numbers s };
-
-    ghost serves = { λ _ _. Unit {0} };
-
-    #[inline(always)]
-    fn fold_packed(
-        &self,
-        old: i64,
-        sources: Neighbours<'_>,
-        from: Option<&[u64]>,
-        _block: &mut SourceBlock,
-    ) -> i64 {
-        fold_list(self.reduction, &self.numbers, old, sources, from)
-    }
-
-    #[inline]
-    fn fold_chunked(
-        &self,
-        old: i64,
-        sources: &CTree,
-        from: Option<&[u64]>,
-        block: &mut SourceBlock,
-    ) -> i64 {
-        let walk = SetWalk::new(sources);
-        fold_walk(
-            self.reduction,
-            &self.numbers,
-            old,
-            walk,
-            from,
-            &mut block.sources,
-        )
     }
 }
 

@@ -8,8 +8,9 @@ ghost use Rattle.edge_apply.specs.Applied.{AreChangesOf};
 ghost use Rattle.push_engine.specs.inside.Work.{AnswersUpTo};
 ghost use Rattle.push_engine.specs.Work.{tests_first, work_from, work_from_end};
 
+use crate::neighbour_block::NeighbourBlock;
 use crate::push_end::{destinations_of, is_in_bits, sources_of};
-use crate::sources::{RowInput, fold_sources};
+use crate::sources::{RowInput, fold_end, fold_words};
 use edge_apply::Apply;
 use edge_fold::{ApplyContext, FoldStart, Scratch};
 use flat_snapshot::Flat;
@@ -44,7 +45,11 @@ pub fn push(alloc: Global, apply: &Apply<'_>, scratch: &mut Scratch) -> Result<C
         context,
         to: destinations.words(),
     };
-    fold_sources(alloc, input, &sources, scratch)?;
+    let mut block = NeighbourBlock::new();
+    match sources.untested() {
+        None => fold_words(alloc, input, sources.words(), &mut block, scratch)?,
+        Some(end) => fold_end(alloc, input, end, &mut block, scratch)?,
+    }
     let changes = scratch.changes(alloc, context, destinations.untested())?;
     Ok(changes)
 }

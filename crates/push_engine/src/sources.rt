@@ -21,7 +21,6 @@ ghost use Rattle.push_engine.specs.inside.Rows.{rows_to};
 
 use crate::list_entries::ListEntries;
 use crate::neighbour_block::NeighbourBlock;
-use crate::push_end::PushEnd;
 use edge_apply::{keep_members, keep_members_weighted, passes, take_part};
 use edge_fold::{ApplyContext, Scratch};
 use flat_snapshot::Flat;
@@ -29,7 +28,7 @@ use kernels::{EndpointFilter, PAIRS};
 use pages::BLOCK_SIZE;
 use std::alloc::{AllocError, Global};
 use vertex_blocks::{
-    ByWidth, NeighbourForm, NeighbourSet, NeighbourWalk, Neighbours, SetWalk, VertexBlock,
+    ByWidth, CTree, NeighbourForm, NeighbourWalk, Neighbours, SetWalk, VertexBlock,
 };
 use vertex_sets::VertexSet;
 
@@ -42,41 +41,9 @@ pub(crate) struct RowInput<'a> {
     pub(crate) to: Option<&'a [u64]>,
 }
 
-/// Folds the edges from the sources: by the words of their bits, from the members of a set, or from those of all vertices that
-/// a filter lets through.
-pub(crate) fn fold_sources(
-    alloc: Global,
-    input: RowInput<'_>,
-    from: &PushEnd<'_>,
-    scratch: &mut Scratch,
-) -> Result<(), AllocError>
-    requires { IsInBits from.now }
-    ensures { OnOk result ((m : StateValue) (steps : List FunctionStatementsTree) (test : ℕ → Bool) → IsContextOf input.entry.context m steps
-        → ((n : ℕ) → AreTests n m test from.now)
-        → HasFolded input.entry.context m steps [] scratch.old
-        → HasFolded input.entry.context m steps (edges_between test (passes_words input.entry.to) input.entry.flat.now.edges)
-        scratch.new) }
-{
-    let mut block = NeighbourBlock::new();
-    let Some(end) = from.untested() else {
-        fold_words(alloc, input, from.words(), &mut block, scratch)?;
-        return Ok(());
-    };
-    match end {
-        EndpointFilter::Members(set) => {
-            fold_members(alloc, input, set, &mut block, scratch)?;
-            Ok(())
-        }
-        EndpointFilter::Filter(_) => {
-            fold_passing(alloc, input, end, &mut block, scratch)?;
-            Ok(())
-        }
-    }
-}
-
 /// Folds the edges from the sources whose bits are set, a block of 64 after the other; words that are not given let all sources
 /// through.
-fn fold_words(
+pub(crate) fn fold_words(
     alloc: Global,
     input: RowInput<'_>,
     words: Option<&[u64]>,
@@ -152,8 +119,28 @@ fn present_in(found: &VertexBlock) -> u64
     page.present() | own
 }
 
+/// Folds the edges from the sources that an end lets through: from the members of a set, or from those of all vertices that a
+/// filter lets through.
+pub(crate) fn fold_end(
+    alloc: Global,
+    input: RowInput<'_>,
+    from: EndpointFilter<'_>,
+    block: &mut NeighbourBlock,
+    scratch: &mut Scratch,
+) -> Result<(), AllocError>
+    ensures { OnOk result ((m : StateValue) (steps : List FunctionStatementsTree) (test : ℕ → Bool) → IsContextOf input.entry.context m steps → IsTest from.entry m test
+        → HasFolded input.entry.context m steps [] scratch.old
+        → HasFolded input.entry.context m steps (edges_between test (passes_words input.entry.to) input.entry.flat.now.edges)
+        scratch.new) }
+{
+    match from {
+        EndpointFilter::Members(set) => fold_members(alloc, input, set, block, scratch),
+        EndpointFilter::Filter(_) => fold_passing(alloc, input, from, block, scratch),
+    }
+}
+
 /// Folds the edges from the members of a set.
-fn fold_members(
+pub(crate) fn fold_members(
     alloc: Global,
     input: RowInput<'_>,
     set: &VertexSet,
@@ -174,7 +161,7 @@ fn fold_members(
 }
 
 /// Folds the edges from the sources that an end lets through. Each vertex with an edge is tested once.
-fn fold_passing(
+pub(crate) fn fold_passing(
     alloc: Global,
     input: RowInput<'_>,
     from: EndpointFilter<'_>,
@@ -236,20 +223,10 @@ fn fold_row(
     let Some(lists) = found else {
         return Ok(());
     };
-    let vertex = source % BLOCK_SIZE;
-    let (page, own) = lists.packed();
-    if (own >> vertex) % 2 == 0 {
-        let list = page.list(vertex);
-        return fold_list(alloc, input, source, list, block, scratch);
+    match lists.neighbours(source % BLOCK_SIZE).into_form() {
+        NeighbourForm::Packed(list) => fold_list(alloc, input, source, list, block, scratch),
+        NeighbourForm::Chunked(set) => fold_chunked(alloc, input, source, set, block, scratch),
     }
-    fold_set(
-        alloc,
-        input,
-        source,
-        lists.neighbours(vertex),
-        block,
-        scratch,
-    )
 }
 
 /// Folds the edges from a source to the neighbours of a packed list, in a loop for each width.
@@ -297,7 +274,15 @@ fn fold_narrow(
     if done {
         return Ok(());
     }
-    fold_parts(alloc, input, source, list, block, scratch)
+    let len = list.len();
+    let mut first = 0usize;
+    'parts: while first < len {
+        let count = (len - first).min(PAIRS);
+        let kept = read_passing(input.to, list, first, count, &mut block.keys);
+        scratch.fold(alloc, input.context, source, &block.keys[..kept])?;
+        first += count;
+    }
+    Ok(())
 }
 
 /// Folds the edges from a source to the neighbours of a packed list by index, if no destination is tested and what is given on an
@@ -319,32 +304,6 @@ fn fold_untested(
         return Ok(false);
     }
     scratch.fold_entries(alloc, input.context, source, &ListEntries { list })
-}
-
-/// Folds the edges from a source to the neighbours of a packed list of one width, in blocks, if no function reads weights.
-#[inline(always)]
-fn fold_parts(
-    alloc: Global,
-    input: RowInput<'_>,
-    source: u32,
-    list: &Neighbours<'_>,
-    block: &mut NeighbourBlock,
-    scratch: &mut Scratch,
-) -> Result<(), AllocError>
-    requires { input.context.weighted ≡ false }
-    ensures { OnOk result ((m : StateValue) (steps : List FunctionStatementsTree) (edges : List Edge) → IsContextOf input.entry.context m steps
-        → HasFolded input.entry.context m steps edges scratch.old → HasFolded input.entry.context m steps (edges
-        ++ row source (filter (λ e. passes_words input.entry.to e.0) list.now)) scratch.new) }
-{
-    let len = list.len();
-    let mut first = 0usize;
-    'parts: while first < len {
-        let count = (len - first).min(PAIRS);
-        let kept = read_passing(input.to, list, first, count, &mut block.keys);
-        scratch.fold(alloc, input.context, source, &block.keys[..kept])?;
-        first += count;
-    }
-    Ok(())
 }
 
 /// Reads so many neighbours from an index on, keeps those whose bits are set at the front of a block, in their order, and
@@ -373,42 +332,21 @@ fn read_passing(
     kept
 }
 
-/// Folds the edges from a source to the neighbours of a set, in the form in which they are stored.
+/// Folds the edges from a source to the neighbours of a set in chunks, in blocks.
 #[inline(never)]
-fn fold_set(
+fn fold_chunked(
     alloc: Global,
     input: RowInput<'_>,
     source: u32,
-    neighbours: NeighbourSet<'_>,
+    set: &CTree,
     block: &mut NeighbourBlock,
     scratch: &mut Scratch,
 ) -> Result<(), AllocError>
     ensures { OnOk result ((m : StateValue) (steps : List FunctionStatementsTree) (edges : List Edge) → IsContextOf input.entry.context m steps
         → HasFolded input.entry.context m steps edges scratch.old → HasFolded input.entry.context m steps (edges
-        ++ row source (filter (λ e. passes_words input.entry.to e.0) neighbours.entry)) scratch.new) }
+        ++ row source (filter (λ e. passes_words input.entry.to e.0) set.now.entries)) scratch.new) }
 {
-    match neighbours.into_form() {
-        NeighbourForm::Packed(list) => fold_list(alloc, input, source, list, block, scratch),
-        NeighbourForm::Chunked(set) => {
-            fold_walk(alloc, input, source, SetWalk::new(set), block, scratch)
-        }
-    }
-}
-
-/// Folds the edges from a source to the destinations of a walk. Weights are read if a function reads them.
-#[inline]
-fn fold_walk<W: NeighbourWalk + Drop>(
-    alloc: Global,
-    input: RowInput<'_>,
-    source: u32,
-    mut walk: W,
-    block: &mut NeighbourBlock,
-    scratch: &mut Scratch,
-) -> Result<(), AllocError>
-    ensures { OnOk result ((m : StateValue) (steps : List FunctionStatementsTree) (edges : List Edge) → IsContextOf input.entry.context m steps
-        → HasFolded input.entry.context m steps edges scratch.old → HasFolded input.entry.context m steps (edges
-        ++ row source (filter (λ e. passes_words input.entry.to e.0) (W.coming walk))) scratch.new) }
-{
+    let mut walk = SetWalk::new(set);
     if input.context.weighted {
         return fold_weighted(alloc, input, source, walk, block, scratch);
     }

@@ -9,3 +9,4 @@ pub mod Growing
 pub mod Indices
 pub mod Values
 pub mod Uses
+pub mod SimpleStatements

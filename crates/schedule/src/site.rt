@@ -1,14 +1,14 @@
 //! Label sites: what each label of a program is before.
 ghost use Rattle.std.specs.Prelude.{◌≡◌, ◌++◌, drop, nat_eq, IfOk, OnOk};
 ghost use Rattle.std.specs.Map.{lookup};
-ghost use Rattle.typed_tree.specs.BlockTree.{statement_kind_tree, block_tree};
+ghost use Rattle.typed_tree.specs.BlockTree.{statement_kind_tree, simple_statement_tree, block_tree};
 ghost use Rattle.schedule.specs.Schedule.{apply_of, label_of, modifying_as, sites_in, sites_of};
 ghost use Rattle.schedule.specs.inside.Putting.{AreSites, PutsSite};
 
 use indexmap::IndexMap;
 use std::alloc::{AllocError, Global};
 use std::marker::Model;
-use typed_tree::{MainStatement, SetValue, StatementApply, StatementKind};
+use typed_tree::{MainStatement, SetValue, SimpleStatement, StatementApply, StatementKind};
 
 /// What a label is before.
 #[derive(Clone, Copy, Debug, PartialEq, Eq)]
@@ -89,7 +89,7 @@ fn push_sites(
         behind += 1;
         if let Some(label) = statement.label {
             let site = Site {
-                apply: applied_by(&statement.action),
+                apply: applied_in(&statement.action),
                 next: label_at(statements, behind),
             };
             sites.push((label, site))?;
@@ -101,6 +101,7 @@ fn push_sites(
 
 /// Puts the labels of the statements in the blocks of a statement after the others, in the order of the text.
 #[cycle(sites)]
+#[tactic(auto, using(crate::proofs::SimpleStatements::simple_has_no_sites))]
 fn push_inner(action: &StatementKind, sites: &mut Vec<(usize, Site)>) -> Result<(), AllocError>
     ensures { OnOk result (sites.new.items ≡ sites.old.items ++ sites_in (statement_kind_tree action.now)) }
 {
@@ -124,21 +125,32 @@ fn label_at(statements: &[MainStatement], index: usize) -> Option<usize>
 }
 
 /// What a statement applies, if it does.
-fn applied_by(action: &StatementKind) -> Option<StatementApply>
+fn applied_in(action: &StatementKind) -> Option<StatementApply>
     ensures { result ≡ apply_of (statement_kind_tree action.now) }
 {
     match action {
-        StatementKind::ApplyVertex(set, function) => Some(StatementApply::Vertices {
+        StatementKind::Simple(statement) => applied_by(statement),
+        _ => None,
+    }
+}
+
+/// What a statement without a block applies, if it does.
+#[tactic(auto, using(crate::proofs::SimpleStatements::value_applies_nothing))]
+fn applied_by(statement: &SimpleStatement) -> Option<StatementApply>
+    ensures { result ≡ apply_of (simple_statement_tree statement.now) }
+{
+    match statement {
+        SimpleStatement::ApplyVertex(set, function) => Some(StatementApply::Vertices {
             set: *set,
             function: *function,
         }),
-        StatementKind::ApplyEdges(ends, function) => Some(StatementApply::Edges {
+        SimpleStatement::ApplyEdges(ends, function) => Some(StatementApply::Edges {
             ends: *ends,
             function: *function,
             result: None,
         }),
-        StatementKind::DeclareSet(name, value) => modifying(*value, *name),
-        StatementKind::AssignSet(slot, value) => modifying(*value, slot.name),
+        SimpleStatement::DeclareSet(name, value) => modifying(*value, *name),
+        SimpleStatement::AssignSet(slot, value) => modifying(*value, slot.name),
         _ => None,
     }
 }

@@ -4,7 +4,7 @@ use Rattle.std.proofs.lemmas.Bool.{cases_eq, ne_eqb, eq-eqb}
 use Rattle.edge_updates.specs.declared.edge_update.EdgeUpdate.{EdgeUpdate}
 use Rattle.edge_updates.specs.EdgeUpdate.{vertex_of, neighbour_of}
 use Rattle.edge_updates.specs.Updates.{names}
-use Rattle.weighted_updates.specs.WeightedUpdates.{decided_weight}
+use Rattle.edge_updates.specs.Updates.{decided_weight}
 use Rattle.std.specs.Map.{keys_of}
 use Rattle.ascending_lists.specs.Maps.{lookup}
 use Rattle.ascending_lists.specs.Ascending.{AscendsFrom}

@@ -10,7 +10,7 @@ use Rattle.shared_tree.proofs.CutMaps.{value_below, value_above}
 use Rattle.edge_updates.specs.declared.edge_update.EdgeUpdate.{EdgeUpdate}
 use Rattle.edge_updates.specs.EdgeUpdate.{vertex_of, neighbour_of}
 use Rattle.edge_updates.specs.Updates.{FollowAscending, Ascend}
-use Rattle.weighted_updates.specs.WeightedUpdates.{decided_weight}
+use Rattle.edge_updates.specs.Updates.{decided_weight}
 use Rattle.std.specs.Map.{keys_of}
 use Rattle.pages.specs.Updates.{AreOfBlock, EdgesAscend}
 use Rattle.pages.proofs.UpdateRuns.{ascend_in_page}

@@ -9,7 +9,7 @@ use Rattle.ascending_lists.proofs.MapOrder.{rises_to, rises_joined, lookup_here}
 use Rattle.edge_updates.specs.declared.edge_update.EdgeUpdate.{EdgeUpdate}
 use Rattle.edge_updates.specs.EdgeUpdate.{vertex_of}
 use Rattle.edge_updates.specs.Updates.{FollowAscending, Ascend}
-use Rattle.weighted_updates.specs.WeightedUpdates.{one_weight_decided, decided_weight}
+use Rattle.edge_updates.specs.Updates.{one_weight_decided, decided_weight}
 use Rattle.std.specs.Map.{keys_of}
 use Rattle.pages.specs.Updates.{AreOfBlock, EdgesAscend}
 use Rattle.pages.proofs.UpdateRuns.{ascend_in_page}

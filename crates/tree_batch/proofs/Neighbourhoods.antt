@@ -5,7 +5,7 @@ use Rattle.shared_tree.specs.declared.change_all.Changed.{Changed}
 use Rattle.shared_tree.specs.ChangedMaps.{MadeAt, GrewBy}
 use Rattle.c_tree.specs.Heads.{IsChunkSize}
 use Rattle.edge_updates.specs.declared.edge_update.EdgeUpdate.{EdgeUpdate}
-use Rattle.weighted_updates.specs.WeightedUpdates.{decided_weight}
+use Rattle.edge_updates.specs.Updates.{decided_weight}
 use Rattle.pages.specs.Vertices.{neighbours_of}
 use Rattle.pages.specs.Updates.{updated, updates_of}
 use Rattle.vertex_blocks.specs.declared.block.VertexBlock.{VertexBlock}

@@ -1,18 +1,13 @@
--- Updates without weights, against those with weight 1.
-use Rattle.std.proofs.Common.{◌≡◌, ℕ, zero, suc, ℤ, pos, negsuc, ◌<◌, Bool, true, false, not, if◌then◌else◌, Option, Some, None, inl, inr, List, [], ◌∷◌, ◌++◌, length, get_or, refl, sym, ap, ◌∙◌}
-use Rattle.std.proofs.Common.{subst, arith}
-use Rattle.std.proofs.lemmas.Bool.{cases_Bool, eqb-true, false≢true, or_parts}
-use Rattle.std.specs.Option.{option_or, option_map}
+-- Updates of weight 1.
+use Rattle.std.proofs.Common.{◌≡◌, ℕ, zero, suc, ℤ, pos, negsuc, ◌<◌, Bool, true, false, not, Some, None, List, [], ◌∷◌, length, map, get_or, refl, sym, ap, ◌∙◌}
+use Rattle.std.proofs.Common.{arith}
+use Rattle.std.proofs.lemmas.Bool.{eqb-true, false≢true, or_parts}
 use Rattle.std.specs.List.{list_any}
 use Rattle.edge_updates.specs.declared.edge_update.EdgeUpdate.{EdgeUpdate}
 use Rattle.edge_updates.specs.EdgeUpdate.{vertex_of, neighbour_of, adds}
-use Rattle.edge_updates.specs.Updates.{names, decided, Ascend}
+use Rattle.edge_updates.specs.Updates.{unit_pair, weight_said}
 use Rattle.edge_updates.specs.Weighted.{weighted}
 use Rattle.tail_codec.specs.Spelling.{is_one}
-use Rattle.std.specs.Map.{keys_of}
-use Rattle.edge_updates.proofs.Weighted.{things_of}
-use Rattle.weighted_updates.specs.declared.weighted_update.WeightedUpdate.{WeightedUpdate}
-use Rattle.weighted_updates.specs.WeightedUpdates.{weight_said, decided_weight, pairs_in, updates_in}
 use Rattle.tree_batch.specs.declared.batch.Entry.{Entry}
 use Rattle.tree_batch.specs.declared.batch.Entry.TheVariants.{Add, Remove, Grow}
 use Rattle.tree_batch.specs.Edge.{Ends, has_weight}
@@ -52,43 +47,7 @@ none_weighted [] i d none lt = absurd (omega arith)
 none_weighted (x ∷ xs) zero d none lt = let parts = or_parts (has_weight x) (list_any has_weight xs) none in parts.0
 none_weighted (x ∷ xs) (suc i) d none lt = let parts = or_parts (has_weight x) (list_any has_weight xs) none in none_weighted xs i d parts.1 (omega arith)
 
--- one more update of weight 1
-pub weighted_push : (us : List EdgeUpdate) (u : EdgeUpdate) → weighted (us ++ u ∷ []) [] ≡ weighted us [] ++ (u, pos 1) ∷ []
-weighted_push [] u = refl
-weighted_push (x ∷ xs) u = ap (λ ys. (x, pos 1) ∷ ys) (weighted_push xs u)
-
--- what is said of an edge of weight 1
-abbrev unit_of : Option Bool → Option (Option ℤ)
-unit_of o = option_map (λ b. if b then Some (pos 1) else None) o
-
-or_units : (a b : Option Bool) → option_or (unit_of a) (unit_of b) ≡ unit_of (option_or a b)
-or_units None b = refl
-or_units (Some x) b = refl
-
-unit_decided : (us : List EdgeUpdate) (e : Ends) → decided_weight (weighted us []) e ≡ unit_of (decided us e)
-unit_decided [] e = refl
-unit_decided (u ∷ us) e = elim (cases_Bool (names u e)) [
-  | inl is ↦ rw (is, unit_decided us e) (or_units (decided us e) (Some (adds u)))
-  | inr other ↦ rw (other, unit_decided us e) (or_units (decided us e) None)
-]
-
--- updates that decide the same still do so with weight 1
-pub same_units : (us vs : List EdgeUpdate) (e f : Ends) → decided vs f ≡ decided us e → decided_weight (weighted vs []) f ≡ decided_weight (weighted us []) e
-same_units us vs e f same = unit_decided vs f ∙ ap unit_of same ∙ sym (unit_decided us e)
-
-updates_alone : (ws : List WeightedUpdate) → keys_of (pairs_in ws) ≡ updates_in ws
-updates_alone [] = refl
-updates_alone (w ∷ ws) = ap (λ us. w.update ∷ us) (updates_alone ws)
-
--- updates ascend with weights where they do alone
-pub units_ascend : (us : List EdgeUpdate) → Ascend us → Ascend (keys_of (weighted us []))
-units_ascend us s = subst Ascend (sym (things_of us [])) s
-
-pub units_alone : (us : List EdgeUpdate) → Ascend (keys_of (weighted us [])) → Ascend us
-units_alone us s = subst Ascend (things_of us []) s
-
-pub pairs_ascend : (ws : List WeightedUpdate) → Ascend (updates_in ws) → Ascend (keys_of (pairs_in ws))
-pairs_ascend ws s = subst Ascend (sym (updates_alone ws)) s
-
-pub pairs_alone : (ws : List WeightedUpdate) → Ascend (keys_of (pairs_in ws)) → Ascend (updates_in ws)
-pairs_alone ws s = subst Ascend (updates_alone ws) s
+-- updates whose column of weights is empty
+pub no_weights : (us : List EdgeUpdate) → weighted us [] ≡ map unit_pair us
+no_weights [] = refl
+no_weights (u ∷ us) = ap (λ ps. (u, pos 1) ∷ ps) (no_weights us)

@@ -1,9 +1,8 @@
 //! What sorted updates make of a tree, and the same updates seen from the other end of their edges.
 
-ghost use Rattle.std.specs.Prelude.{◌+◌, ◌≡◌, ◌≤◌, IfOk};
+ghost use Rattle.std.specs.Prelude.{◌+◌, ◌≡◌, ◌≤◌, IfOk, map};
 ghost use Rattle.std.specs.Map.{keys_of};
-ghost use Rattle.edge_updates.specs.Updates.{Ascend};
-ghost use Rattle.weighted_updates.specs.WeightedUpdates.{decided_weight};
+ghost use Rattle.edge_updates.specs.Updates.{Ascend, decided_weight, unit_pair};
 ghost use Rattle.tree_batch.specs.Edge.{Ends};
 ghost use Rattle.tree_batch.specs.inside.Forking.{IsChangedTree};
 ghost use Rattle.tree_batch.specs.inside.Sorted.{sorted_pairs};
@@ -12,13 +11,12 @@ use crate::cuts::changed;
 use crate::forked::change_forked;
 use crate::updates::SortedUpdates;
 use c_tree::ChunkSize;
-use edge_updates::{Updates, sort_forked, sort_transposed, transpose};
+use edge_updates::{Columns, EdgeUpdate, Updates, sort_transposed, sort_transposed_forked};
 use set_ops::{Fork, Forking};
 use shared_tree::{Changed, Tree};
 use std::alloc::{AllocError, Global};
 use std::thread::Threads;
 use vertex_blocks::VertexBlock;
-use weighted_updates::Columns;
 
 impl SortedUpdates {
     /// Updates that ascend, seen from their neighbours, ascending again.
@@ -36,13 +34,13 @@ impl SortedUpdates {
             }
             SortedUpdates::Weighted(mut updates) => {
                 let mut scratch = Vec::new(alloc);
-                weighted_updates::sort_transposed(&mut updates, &mut scratch)?;
+                sort_transposed(&mut updates, &mut scratch)?;
                 Ok(SortedUpdates::Weighted(updates))
             }
         }
     }
 
-    /// As `transposed`, sorted by as many threads as there are processors.
+    /// Like `transposed`, sorted by as many threads as there are processors.
     pub(crate) fn transposed_forked<R: Threads + Sync>(
         self,
         rt: &R,
@@ -55,18 +53,17 @@ impl SortedUpdates {
     {
         match self {
             SortedUpdates::Unweighted(mut updates) => {
-                transpose(&mut updates);
-                sort_forked(rt, alloc, &mut updates)?;
+                sort_transposed_forked(rt, alloc, &mut updates)?;
                 Ok(SortedUpdates::Unweighted(updates))
             }
             SortedUpdates::Weighted(mut updates) => {
-                weighted_updates::sort_transposed_forked(rt, alloc, &mut updates)?;
+                sort_transposed_forked(rt, alloc, &mut updates)?;
                 Ok(SortedUpdates::Weighted(updates))
             }
         }
     }
 
-    /// The tree after updates whose edges ascend. Updates without weights are lent as they stand.
+    /// The tree after updates whose edges ascend. Updates without weights are lent as they are.
     pub(crate) fn change(
         &self,
         alloc: Global,
@@ -78,7 +75,7 @@ impl SortedUpdates {
     {
         match self {
             SortedUpdates::Unweighted(updates) => {
-                changed(alloc, tree, &Updates::new(updates, &[]), chunk_size)
+                changed(alloc, tree, &with_unit_weights(updates), chunk_size)
             }
             SortedUpdates::Weighted(pairs) => {
                 let columns = Columns::of(alloc, pairs)?;
@@ -87,7 +84,7 @@ impl SortedUpdates {
         }
     }
 
-    /// As `change`, with halves of the tree on two threads as `forking` says.
+    /// Like `change`, with halves of the tree on two threads as `forking` says.
     pub(crate) fn change_forked<R: Threads + Sync, F: Fork + Sync>(
         &self,
         rt: &R,
@@ -102,7 +99,7 @@ impl SortedUpdates {
     {
         match self {
             SortedUpdates::Unweighted(updates) => {
-                let lent = Updates::new(updates, &[]);
+                let lent = with_unit_weights(updates);
                 change_forked(rt, alloc, tree, &lent, chunk_size, forking)
             }
             SortedUpdates::Weighted(pairs) => {
@@ -112,4 +109,11 @@ impl SortedUpdates {
             }
         }
     }
+}
+
+/// Updates without weights, lent: each edge that they add has weight 1.
+fn with_unit_weights(updates: &[EdgeUpdate]) -> Updates<'_>
+    ensures { result ≡ map unit_pair updates.now }
+{
+    Updates::new(updates, &[])
 }

@@ -4,6 +4,10 @@ use Rattle.typed_tree.specs.declared.expression.VarRef.{VarRef}
 use Rattle.apply_options.specs.declared.reduction.Reduction.{Reduction}
 use Rattle.typed_tree.specs.declared.statement.StatementKind.{StatementKind, Row_of-MainStatement, end_of-MainStatement, more_of-MainStatement}
 use Rattle.typed_tree.specs.declared.statement.StatementKind.TheVariants as rust
+use Rattle.typed_tree.specs.declared.statement.SimpleStatement.{SimpleStatement}
+use Rattle.typed_tree.specs.declared.statement.SimpleStatement.TheVariants as simple
+use Rattle.typed_tree.specs.declared.statement.ValueStatement.{ValueStatement}
+use Rattle.typed_tree.specs.declared.statement.ValueStatement.TheVariants as value
 use Rattle.typed_tree.specs.declared.statement.ApplyEnds.{ApplyEnds}
 use Rattle.typed_tree.specs.declared.statement.SetValue.{SetValue}
 use Rattle.typed_tree.specs.declared.statement.MainStatement.{MainStatement}
@@ -37,23 +41,31 @@ mutual
     Empty : BlockTree
     Then : (number : ℕ) → (label : Option ℕ) → StatementKindTree → BlockTree → BlockTree
 
+-- the tree of a statement that takes a value
+abbrev pub value_statement_tree : ValueStatement → StatementKindTree
+value_statement_tree (value.DeclareInt name e) = DeclareInt name (int_expression_tree e)
+value_statement_tree (value.DeclareBool name c) = DeclareBool name (bool_expression_tree c)
+value_statement_tree (value.SetInt slot e) = SetInt slot (int_expression_tree e)
+value_statement_tree (value.SetBool slot c) = SetBool slot (bool_expression_tree c)
+value_statement_tree (value.ReduceInt slot reduction e) = ReduceInt slot reduction (int_expression_tree e)
+value_statement_tree (value.AddVertex slot e) = AddVertex slot (int_expression_tree e)
+value_statement_tree (value.PrintInt e) = PrintInt (int_expression_tree e)
+value_statement_tree (value.PrintBool c) = PrintBool (bool_expression_tree c)
+
+-- the tree of a statement without a block
+abbrev pub simple_statement_tree : SimpleStatement → StatementKindTree
+simple_statement_tree (simple.Value s) = value_statement_tree s
+simple_statement_tree (simple.SetEntry vector index value) = SetEntry vector (int_expression_tree index) (int_expression_tree value)
+simple_statement_tree (simple.ReduceEntry vector index reduction value) = ReduceEntry vector (int_expression_tree index) reduction (int_expression_tree value)
+simple_statement_tree (simple.DeclareSet name set) = DeclareSet name set
+simple_statement_tree (simple.AssignSet slot set) = AssignSet slot set
+simple_statement_tree (simple.ApplyVertex set function) = ApplyVertex set function
+simple_statement_tree (simple.ApplyEdges ends function) = ApplyEdges ends function
+
 -- the tree that a Rust tree is
 abbrev mutual
   pub statement_kind_tree : StatementKind → StatementKindTree
-  statement_kind_tree (rust.DeclareInt name e) = DeclareInt name (int_expression_tree e)
-  statement_kind_tree (rust.DeclareBool name c) = DeclareBool name (bool_expression_tree c)
-  statement_kind_tree (rust.SetInt slot e) = SetInt slot (int_expression_tree e)
-  statement_kind_tree (rust.SetBool slot c) = SetBool slot (bool_expression_tree c)
-  statement_kind_tree (rust.ReduceInt slot reduction e) = ReduceInt slot reduction (int_expression_tree e)
-  statement_kind_tree (rust.SetEntry vector index value) = SetEntry vector (int_expression_tree index) (int_expression_tree value)
-  statement_kind_tree (rust.ReduceEntry vector index reduction value) = ReduceEntry vector (int_expression_tree index) reduction (int_expression_tree value)
-  statement_kind_tree (rust.DeclareSet name set) = DeclareSet name set
-  statement_kind_tree (rust.AssignSet slot set) = AssignSet slot set
-  statement_kind_tree (rust.AddVertex slot e) = AddVertex slot (int_expression_tree e)
-  statement_kind_tree (rust.PrintInt e) = PrintInt (int_expression_tree e)
-  statement_kind_tree (rust.PrintBool c) = PrintBool (bool_expression_tree c)
-  statement_kind_tree (rust.ApplyVertex set function) = ApplyVertex set function
-  statement_kind_tree (rust.ApplyEdges ends function) = ApplyEdges ends function
+  statement_kind_tree (rust.Simple s) = simple_statement_tree s
   statement_kind_tree (rust.If' c shape body) = If (bool_expression_tree c) (row_tree body)
   statement_kind_tree (rust.IfElse' c shape body shape' other) = IfElse (bool_expression_tree c) (row_tree body) (row_tree other)
   statement_kind_tree (rust.While' c shape body) = While (bool_expression_tree c) (row_tree body)

@@ -10,7 +10,8 @@
 //! Each Rust type is plain data. Contracts speak of pure trees, which have no pointers: each file of
 //! `specs/` defines one kind, as `IntExpressionTree` or `BlockTree`, and says which one a Rust tree is. A
 //! [`Sequence`] is a `Vec` that contracts see as a list. Operators in a row are one list in the Rust tree, and
-//! signs in a row one count, so that no code recurses by their number; the pure trees nest.
+//! signs in a row one count, so that no code recurses by their number; the pure trees nest. Statements of `main`
+//! without blocks are of a type of their own, [`SimpleStatement`]; a pure tree has all kinds of statements in one type.
 //!
 //! `specs/Resolved.antt` says what it is for each index in a program to be that of something that is there, and for
 //! entries at an index to be in `main` alone (`IsResolved`). The checker's programs are so by a law of `types`.
@@ -43,4 +44,7 @@ pub use expression::{
 pub use function::{Function, FunctionStatement};
 pub use program::{InitialValue, ScheduleCall, Typed, Vector};
 pub use sequence::{Name, Sequence};
-pub use statement::{ApplyEnds, MainStatement, SetValue, StatementKind, VertexFilter};
+pub use statement::{
+    ApplyEnds, MainStatement, SetValue, SimpleStatement, StatementKind, ValueStatement,
+    VertexFilter,
+};

@@ -49,14 +49,18 @@ pub struct ApplyEnds {
 /// What a statement of `main` does.
 #[cycle(statements)]
 pub enum StatementKind {
-    /// Declares an int variable, whose name is at this index, with its first value.
-    DeclareInt(usize, IntExpression),
-    /// Declares a bool variable, whose name is at this index, with its first value.
-    DeclareBool(usize, BoolExpression),
-    SetInt(VarRef, IntExpression),
-    SetBool(VarRef, BoolExpression),
-    /// Reduces the variable with the value.
-    ReduceInt(VarRef, Reduction, IntExpression),
+    Simple(SimpleStatement),
+    If(BoolExpression, Vec<MainStatement>),
+    IfElse(BoolExpression, Vec<MainStatement>, Vec<MainStatement>),
+    While(BoolExpression, Vec<MainStatement>),
+    /// Declares an int variable, whose name is at this index, in its body, and runs the body with each
+    /// value from the first bound up to the second, which is left out.
+    For(usize, IntExpression, IntExpression, Vec<MainStatement>),
+}
+
+/// A statement without a block.
+pub enum SimpleStatement {
+    Value(ValueStatement),
     /// The vector at this index gets an entry at the index, which must be a vertex: first the index,
     /// then the value.
     SetEntry(usize, IntExpression, IntExpression),
@@ -65,22 +69,28 @@ pub enum StatementKind {
     /// Declares a set variable, whose name is at this index, with its first value.
     DeclareSet(usize, SetValue),
     AssignSet(VarRef, SetValue),
+    /// Runs the vertex function at this index for each vertex of the set.
+    ApplyVertex(VarRef, usize),
+    /// Applies the edge function at this index to the edges between the ends.
+    ApplyEdges(ApplyEnds, usize),
+}
+
+/// A statement that takes the value of one expression, and writes to no vector.
+pub enum ValueStatement {
+    /// Declares an int variable, whose name is at this index, with its first value.
+    DeclareInt(usize, IntExpression),
+    /// Declares a bool variable, whose name is at this index, with its first value.
+    DeclareBool(usize, BoolExpression),
+    SetInt(VarRef, IntExpression),
+    SetBool(VarRef, BoolExpression),
+    /// Reduces the variable with the value.
+    ReduceInt(VarRef, Reduction, IntExpression),
     /// Adds the vertex to the set; it must be one.
     AddVertex(VarRef, IntExpression),
     /// Writes the number and a line feed.
     PrintInt(IntExpression),
     /// Writes `true` or `false` and a line feed.
     PrintBool(BoolExpression),
-    /// Runs the vertex function at this index for each vertex of the set.
-    ApplyVertex(VarRef, usize),
-    /// Applies the edge function at this index to the edges between the ends.
-    ApplyEdges(ApplyEnds, usize),
-    If(BoolExpression, Vec<MainStatement>),
-    IfElse(BoolExpression, Vec<MainStatement>, Vec<MainStatement>),
-    While(BoolExpression, Vec<MainStatement>),
-    /// Declares an int variable, whose name is at this index, in its body, and runs the body with each
-    /// value from the first bound up to the second, which is left out.
-    For(usize, IntExpression, IntExpression, Vec<MainStatement>),
 }
 
 impl Drop for MainStatement {
@@ -98,24 +108,40 @@ impl Drop for StatementKind {
     #[cycle(drops)]
     fn drop(self) {
         match self {
-            StatementKind::DeclareInt(_, _)
-            | StatementKind::DeclareBool(_, _)
-            | StatementKind::SetInt(_, _)
-            | StatementKind::SetBool(_, _)
-            | StatementKind::ReduceInt(_, _, _)
-            | StatementKind::SetEntry(_, _, _)
-            | StatementKind::ReduceEntry(_, _, _, _)
-            | StatementKind::DeclareSet(_, _)
-            | StatementKind::AssignSet(_, _)
-            | StatementKind::AddVertex(_, _)
-            | StatementKind::PrintInt(_)
-            | StatementKind::PrintBool(_)
-            | StatementKind::ApplyVertex(_, _)
-            | StatementKind::ApplyEdges(_, _)
+            StatementKind::Simple(_)
             | StatementKind::If(_, _)
             | StatementKind::IfElse(_, _, _)
             | StatementKind::While(_, _)
             | StatementKind::For(_, _, _, _) => {}
+        }
+    }
+}
+
+impl Drop for SimpleStatement {
+    fn drop(self) {
+        match self {
+            SimpleStatement::Value(_)
+            | SimpleStatement::SetEntry(_, _, _)
+            | SimpleStatement::ReduceEntry(_, _, _, _)
+            | SimpleStatement::DeclareSet(_, _)
+            | SimpleStatement::AssignSet(_, _)
+            | SimpleStatement::ApplyVertex(_, _)
+            | SimpleStatement::ApplyEdges(_, _) => {}
+        }
+    }
+}
+
+impl Drop for ValueStatement {
+    fn drop(self) {
+        match self {
+            ValueStatement::DeclareInt(_, _)
+            | ValueStatement::DeclareBool(_, _)
+            | ValueStatement::SetInt(_, _)
+            | ValueStatement::SetBool(_, _)
+            | ValueStatement::ReduceInt(_, _, _)
+            | ValueStatement::AddVertex(_, _)
+            | ValueStatement::PrintInt(_)
+            | ValueStatement::PrintBool(_) => {}
         }
     }
 }

@@ -1,7 +1,7 @@
 //! Blocks of `main`: typing of its statements, one after the other.
 ghost use Rattle.std.specs.Prelude.{◌≡◌, OnOk};
 ghost use Rattle.syntax.specs.SourceViews.{statement_kind_tree as source_action, block_tree as source_block};
-ghost use Rattle.typed_tree.specs.BlockTree.{Empty, statement_kind_tree, block_tree};
+ghost use Rattle.typed_tree.specs.BlockTree.{Empty, simple_statement_tree, statement_kind_tree, block_tree};
 ghost use Rattle.expression_types.specs.Faults.{ReportsFaults};
 ghost use Rattle.expression_types.specs.ScopeTree.{KeepsNames};
 ghost use Rattle.types.specs.Block.{action_typed, statements_typed};
@@ -18,7 +18,7 @@ use crate::wanted::{condition, integer};
 use expression_types::Fault;
 use std::alloc::{AllocError, Global};
 use syntax::Action as Written;
-use typed_tree::{MainStatement, StatementKind};
+use typed_tree::{MainStatement, SimpleStatement, StatementKind};
 
 /// Statements in order. What they declare stays visible after them.
 #[cycle(statements)]
@@ -97,12 +97,18 @@ fn action(
             at,
             variable,
             initial,
-        } => declare_variable(alloc, checker, *at, variable, initial, first_fault),
+        } => {
+            let declared = declare_variable(alloc, checker, *at, variable, initial, first_fault)?;
+            Ok(StatementKind::Simple(declared))
+        }
         Written::For { .. } => repeat(alloc, action, checker, first_fault),
         Written::While { .. } | Written::If { .. } | Written::IfElse { .. } => {
             tested(alloc, action, checker, first_fault)
         }
-        plain => without_block(alloc, plain, checker, first_fault),
+        plain => {
+            let plain = without_block(alloc, plain, checker, first_fault)?;
+            Ok(StatementKind::Simple(plain))
+        }
     }
 }
 
@@ -151,9 +157,9 @@ fn without_block(
     action: &Written,
     checker: &Checker,
     first_fault: &mut Option<Fault>,
-) -> Result<StatementKind, AllocError>
+) -> Result<SimpleStatement, AllocError>
     requires { DeclaresNothing action.now }
-    ensures { ReportsFaults (λ a. (statement_kind_tree a, checker_of checker.now)) first_fault.old first_fault.new result
+    ensures { ReportsFaults (λ a. (simple_statement_tree a, checker_of checker.now)) first_fault.old first_fault.new result
         (action_typed (checker_of checker.now) (source_action action.now)) }
 {
     let scope = &checker.scope;
@@ -176,9 +182,9 @@ fn reduction_or_entry(
     action: &Written,
     checker: &Checker,
     first_fault: &mut Option<Fault>,
-) -> Result<StatementKind, AllocError>
+) -> Result<SimpleStatement, AllocError>
     requires { ReducesOrSetsEntry action.now }
-    ensures { ReportsFaults (λ a. (statement_kind_tree a, checker_of checker.now)) first_fault.old first_fault.new result
+    ensures { ReportsFaults (λ a. (simple_statement_tree a, checker_of checker.now)) first_fault.old first_fault.new result
         (action_typed (checker_of checker.now) (source_action action.now)) }
 {
     let scope = &checker.scope;

@@ -2,7 +2,7 @@
 ghost use Rattle.std.specs.Prelude.{◌≡◌, Some, OnOk};
 ghost use Rattle.std.specs.Option.{option_map};
 ghost use Rattle.syntax.specs.SourceViews.{ends_tree, initial_tree};
-ghost use Rattle.typed_tree.specs.BlockTree.{statement_kind_tree};
+ghost use Rattle.typed_tree.specs.BlockTree.{simple_statement_tree};
 ghost use Rattle.typed_tree.specs.IntExpressionTree.{int_expression_tree};
 ghost use Rattle.expression_types.specs.Faults.{earlier, ReportsFaults, outcome};
 ghost use Rattle.expression_types.specs.ScopeTree.{KeepsNames};
@@ -27,18 +27,18 @@ use expression_types::{
 };
 use std::alloc::{AllocError, Global};
 use syntax::{DeclaredType, Ends, Expression, Initial, Name, Parameter};
-use typed_tree::{IntExpression, StatementKind, VarRef};
+use typed_tree::{IntExpression, SimpleStatement, ValueStatement, VarRef};
 
 /// What is in place of a faulty statement.
-fn nothing() -> StatementKind
-    ensures { statement_kind_tree result ≡ no_action }
+fn nothing() -> SimpleStatement
+    ensures { simple_statement_tree result ≡ no_action }
 {
-    StatementKind::PrintInt(IntExpression::Number(0))
+    SimpleStatement::Value(ValueStatement::PrintInt(IntExpression::Number(0)))
 }
 
 /// A statement that breaks a rule of types.
-fn wrong(at: usize, first_fault: &mut Option<Fault>) -> StatementKind
-    ensures action { statement_kind_tree result ≡ no_action }
+fn wrong(at: usize, first_fault: &mut Option<Fault>) -> SimpleStatement
+    ensures action { simple_statement_tree result ≡ no_action }
     ensures first_fault { first_fault.new ≡ Some (earlier first_fault.old (record { at = at; rule = TypeRule.WrongType })) }
 {
     note(first_fault, at, TypeRule::WrongType);
@@ -53,8 +53,8 @@ pub(crate) fn declare_variable(
     variable: &Parameter,
     initial: &Initial,
     first_fault: &mut Option<Fault>,
-) -> Result<StatementKind, AllocError>
-    ensures typed { ReportsFaults (λ a. (statement_kind_tree a, checker_of checker.new)) first_fault.old first_fault.new result
+) -> Result<SimpleStatement, AllocError>
+    ensures typed { ReportsFaults (λ a. (simple_statement_tree a, checker_of checker.new)) first_fault.old first_fault.new result
         (variable_declared (checker_of checker.old) at variable.now.name variable.now.declared (initial_tree initial.now)) }
     ensures kept { OnOk result (KeepsNames checker.old.scope checker.new.scope) }
 {
@@ -69,8 +69,8 @@ fn declare_initialized(
     variable: &Parameter,
     initializer: Initializer,
     first_fault: &mut Option<Fault>,
-) -> Result<StatementKind, AllocError>
-    ensures typed { ReportsFaults (λ a. (statement_kind_tree a, checker_of checker.new)) first_fault.old first_fault.new result
+) -> Result<SimpleStatement, AllocError>
+    ensures typed { ReportsFaults (λ a. (simple_statement_tree a, checker_of checker.new)) first_fault.old first_fault.new result
         (declare_as (checker_of checker.old) at variable.now.name (initializer_tree initializer) variable.now.declared) }
     ensures kept { OnOk result (KeepsNames checker.old.scope checker.new.scope) }
 {
@@ -86,27 +86,27 @@ fn declaration(
     declared: DeclaredType,
     initializer: Initializer,
     first_fault: &mut Option<Fault>,
-) -> (Entity, StatementKind)
+) -> (Entity, SimpleStatement)
     ensures { outcome first_fault.old (variable_as (checker_of checker.now) at (initializer_tree initializer) declared)
-        ≡ ((result.0, statement_kind_tree result.1), first_fault.new) }
+        ≡ ((result.0, simple_statement_tree result.1), first_fault.new) }
 {
     match declared {
         DeclaredType::Int => {
             let value = initializer.into_integer(at, first_fault);
             let slot = checker.integer_slot();
-            let action = StatementKind::DeclareInt(slot.name, value);
+            let action = SimpleStatement::Value(ValueStatement::DeclareInt(slot.name, value));
             (Entity::IntVariable(slot), action)
         }
         DeclaredType::Bool => {
             let value = initializer.into_condition(at, first_fault);
             let slot = checker.condition_slot();
-            let action = StatementKind::DeclareBool(slot.name, value);
+            let action = SimpleStatement::Value(ValueStatement::DeclareBool(slot.name, value));
             (Entity::BoolVariable(slot), action)
         }
         DeclaredType::VertexSet => {
             let value = initializer.into_members(at, first_fault);
             let slot = checker.set_slot();
-            let action = StatementKind::DeclareSet(slot.name, value);
+            let action = SimpleStatement::DeclareSet(slot.name, value);
             (Entity::SetVariable(slot), action)
         }
         DeclaredType::Vertex
@@ -123,8 +123,8 @@ pub(crate) fn assign(
     name: &Name,
     initial: &Initial,
     first_fault: &mut Option<Fault>,
-) -> Result<StatementKind, AllocError>
-    ensures { ReportsFaults statement_kind_tree first_fault.old first_fault.new result
+) -> Result<SimpleStatement, AllocError>
+    ensures { ReportsFaults simple_statement_tree first_fault.old first_fault.new result
         (assignment (checker_of checker.now) name.now.at name.now (initial_tree initial.now)) }
 {
     let at = name.at();
@@ -138,18 +138,19 @@ fn assign_initializer(
     initializer: Initializer,
     entity: Entity,
     first_fault: &mut Option<Fault>,
-) -> StatementKind
-    ensures { outcome first_fault.old (assigned at (initializer_tree initializer) entity) ≡ (statement_kind_tree result, first_fault.new) }
+) -> SimpleStatement
+    ensures { outcome first_fault.old (assigned at (initializer_tree initializer) entity) ≡ (simple_statement_tree result, first_fault.new) }
 {
     match entity {
-        Entity::IntVariable(slot) => StatementKind::SetInt(
-            slot,
-            initializer.into_integer(at, first_fault),
-        ),
-        Entity::BoolVariable(slot) => {
-            StatementKind::SetBool(slot, initializer.into_condition(at, first_fault))
+        Entity::IntVariable(slot) => {
+            let value = initializer.into_integer(at, first_fault);
+            SimpleStatement::Value(ValueStatement::SetInt(slot, value))
         }
-        Entity::SetVariable(slot) => StatementKind::AssignSet(
+        Entity::BoolVariable(slot) => {
+            let value = initializer.into_condition(at, first_fault);
+            SimpleStatement::Value(ValueStatement::SetBool(slot, value))
+        }
+        Entity::SetVariable(slot) => SimpleStatement::AssignSet(
             slot,
             initializer.into_members(at, first_fault),
         ),
@@ -166,8 +167,8 @@ pub(crate) fn reduce(
     by: Reduction,
     value: &Expression,
     first_fault: &mut Option<Fault>,
-) -> Result<StatementKind, AllocError>
-    ensures { ReportsFaults statement_kind_tree first_fault.old first_fault.new result (reduction_statement scope.now name.now.at name.now by value.now) }
+) -> Result<SimpleStatement, AllocError>
+    ensures { ReportsFaults simple_statement_tree first_fault.old first_fault.new result (reduction_statement scope.now name.now.at name.now by value.now) }
 {
     let at = name.at();
     let entity = entity(scope, name, first_fault);
@@ -181,12 +182,13 @@ fn reduce_value(
     value: Value,
     entity: Entity,
     first_fault: &mut Option<Fault>,
-) -> StatementKind
-    ensures { outcome first_fault.old (reduced at by (value_tree value) entity) ≡ (statement_kind_tree result, first_fault.new) }
+) -> SimpleStatement
+    ensures { outcome first_fault.old (reduced at by (value_tree value) entity) ≡ (simple_statement_tree result, first_fault.new) }
 {
     match entity {
         Entity::IntVariable(slot) => {
-            StatementKind::ReduceInt(slot, by, integer_of(at, value, first_fault))
+            let value = integer_of(at, value, first_fault);
+            SimpleStatement::Value(ValueStatement::ReduceInt(slot, by, value))
         }
         Entity::Error => nothing(),
         _ => wrong(at, first_fault),
@@ -200,8 +202,8 @@ pub(crate) fn set_entry(
     written: WrittenEntry<'_>,
     value: &Expression,
     first_fault: &mut Option<Fault>,
-) -> Result<StatementKind, AllocError>
-    ensures { ReportsFaults statement_kind_tree first_fault.old first_fault.new result (entry_setting scope.now written.entry.vector.now.at written.entry.vector.now written.entry.index.now value.now) }
+) -> Result<SimpleStatement, AllocError>
+    ensures { ReportsFaults simple_statement_tree first_fault.old first_fault.new result (entry_setting scope.now written.entry.vector.now.at written.entry.vector.now written.entry.index.now value.now) }
 {
     let at = written.vector.at();
     let vector = vector(scope, at, written.vector, first_fault);
@@ -215,11 +217,11 @@ fn setting(
     vector: Option<usize>,
     index: Option<IntExpression>,
     value: IntExpression,
-) -> StatementKind
-    ensures { statement_kind_tree result ≡ entry_set vector (option_map int_expression_tree index) (int_expression_tree value) }
+) -> SimpleStatement
+    ensures { simple_statement_tree result ≡ entry_set vector (option_map int_expression_tree index) (int_expression_tree value) }
 {
     match (vector, index) {
-        (Some(vector), Some(index)) => StatementKind::SetEntry(vector, index, value),
+        (Some(vector), Some(index)) => SimpleStatement::SetEntry(vector, index, value),
         _ => nothing(),
     }
 }
@@ -232,8 +234,8 @@ pub(crate) fn reduce_entry(
     by: Reduction,
     value: &Expression,
     first_fault: &mut Option<Fault>,
-) -> Result<StatementKind, AllocError>
-    ensures { ReportsFaults statement_kind_tree first_fault.old first_fault.new result (entry_reduction scope.now written.entry.vector.now.at written.entry.vector.now written.entry.index.now by value.now) }
+) -> Result<SimpleStatement, AllocError>
+    ensures { ReportsFaults simple_statement_tree first_fault.old first_fault.new result (entry_reduction scope.now written.entry.vector.now.at written.entry.vector.now written.entry.index.now by value.now) }
 {
     let at = written.vector.at();
     let vector = vector(scope, at, written.vector, first_fault);
@@ -248,11 +250,11 @@ fn reducing(
     index: Option<IntExpression>,
     by: Reduction,
     value: IntExpression,
-) -> StatementKind
-    ensures { statement_kind_tree result ≡ entry_reduced vector (option_map int_expression_tree index) by (int_expression_tree value) }
+) -> SimpleStatement
+    ensures { simple_statement_tree result ≡ entry_reduced vector (option_map int_expression_tree index) by (int_expression_tree value) }
 {
     match (vector, index) {
-        (Some(vector), Some(index)) => StatementKind::ReduceEntry(vector, index, by, value),
+        (Some(vector), Some(index)) => SimpleStatement::ReduceEntry(vector, index, by, value),
         _ => nothing(),
     }
 }
@@ -264,8 +266,8 @@ pub(crate) fn add_vertex(
     set: &Name,
     vertex: &Expression,
     first_fault: &mut Option<Fault>,
-) -> Result<StatementKind, AllocError>
-    ensures { ReportsFaults statement_kind_tree first_fault.old first_fault.new result (vertex_added scope.now set.now.at set.now vertex.now) }
+) -> Result<SimpleStatement, AllocError>
+    ensures { ReportsFaults simple_statement_tree first_fault.old first_fault.new result (vertex_added scope.now set.now.at set.now vertex.now) }
 {
     let at = set.at();
     let entity = entity(scope, set, first_fault);
@@ -278,14 +280,14 @@ fn add_value(
     value: Value,
     entity: Entity,
     first_fault: &mut Option<Fault>,
-) -> StatementKind
-    ensures { outcome first_fault.old (added_to_set at (value_tree value) entity) ≡ (statement_kind_tree result, first_fault.new) }
+) -> SimpleStatement
+    ensures { outcome first_fault.old (added_to_set at (value_tree value) entity) ≡ (simple_statement_tree result, first_fault.new) }
 {
     match entity {
-        Entity::SetVariable(slot) => StatementKind::AddVertex(
-            slot,
-            integer_of(at, value, first_fault),
-        ),
+        Entity::SetVariable(slot) => {
+            let vertex = integer_of(at, value, first_fault);
+            SimpleStatement::Value(ValueStatement::AddVertex(slot, vertex))
+        }
         Entity::Error => nothing(),
         _ => wrong(at, first_fault),
     }
@@ -298,27 +300,27 @@ pub(crate) fn print(
     at: usize,
     value: &Expression,
     first_fault: &mut Option<Fault>,
-) -> Result<StatementKind, AllocError>
-    ensures { ReportsFaults statement_kind_tree first_fault.old first_fault.new result (print_statement scope.now at value.now) }
+) -> Result<SimpleStatement, AllocError>
+    ensures { ReportsFaults simple_statement_tree first_fault.old first_fault.new result (print_statement scope.now at value.now) }
 {
     let value = type_expression(alloc, scope, at, value, first_fault)?;
     Ok(print_value(at, value, first_fault))
 }
 
-fn print_value(at: usize, value: Value, first_fault: &mut Option<Fault>) -> StatementKind
-    ensures { outcome first_fault.old (printed at (value_tree value)) ≡ (statement_kind_tree result, first_fault.new) }
+fn print_value(at: usize, value: Value, first_fault: &mut Option<Fault>) -> SimpleStatement
+    ensures { outcome first_fault.old (printed at (value_tree value)) ≡ (simple_statement_tree result, first_fault.new) }
 {
     if value.is_error() {
         return nothing();
     }
     if value.is_condition() {
         return match value.into_condition() {
-            Some(c) => StatementKind::PrintBool(c),
+            Some(c) => SimpleStatement::Value(ValueStatement::PrintBool(c)),
             None => nothing(),
         };
     }
     match value.into_integer() {
-        Some(e) => StatementKind::PrintInt(e),
+        Some(e) => SimpleStatement::Value(ValueStatement::PrintInt(e)),
         None => wrong(at, first_fault),
     }
 }
@@ -330,9 +332,9 @@ pub(crate) fn apply(
     ends: &Ends,
     function: &Name,
     first_fault: &mut Option<Fault>,
-) -> StatementKind
+) -> SimpleStatement
     ensures { outcome first_fault.old (apply_statement scope.now target.now.at target.now (ends_tree ends.now) function.now)
-        ≡ (statement_kind_tree result, first_fault.new) }
+        ≡ (simple_statement_tree result, first_fault.new) }
 {
     let at = target.at();
     let apply = read_apply(scope, target, ends, function, first_fault);
@@ -351,9 +353,9 @@ fn apply_to(
     apply: NamedApply,
     has_ends: bool,
     first_fault: &mut Option<Fault>,
-) -> StatementKind
+) -> SimpleStatement
     ensures { outcome first_fault.old (applied at apply.target (apply_end_tree apply.from) (apply_end_tree apply.to) has_ends apply.function)
-        ≡ (statement_kind_tree result, first_fault.new) }
+        ≡ (simple_statement_tree result, first_fault.new) }
 {
     let NamedApply {
         target,
@@ -382,16 +384,16 @@ fn apply_to_edges(
     to: ApplyEnd,
     function: Entity,
     first_fault: &mut Option<Fault>,
-) -> StatementKind
+) -> SimpleStatement
     ensures { outcome first_fault.old (edges_applied at (apply_end_tree from) (apply_end_tree to) (names_error function) (edge_function function))
-        ≡ (statement_kind_tree result, first_fault.new) }
+        ≡ (simple_statement_tree result, first_fault.new) }
 {
     match edge_function_named(function) {
         Some(index) => {
             if from.is_error() || to.is_error() {
                 nothing()
             } else {
-                StatementKind::ApplyEdges(ends_of(from, to), index)
+                SimpleStatement::ApplyEdges(ends_of(from, to), index)
             }
         }
         None => {
@@ -409,11 +411,11 @@ fn apply_to_set(
     slot: VarRef,
     function: Entity,
     first_fault: &mut Option<Fault>,
-) -> StatementKind
-    ensures { outcome first_fault.old (vertices_applied at slot (names_error function) (vertex_function function)) ≡ (statement_kind_tree result, first_fault.new) }
+) -> SimpleStatement
+    ensures { outcome first_fault.old (vertices_applied at slot (names_error function) (vertex_function function)) ≡ (simple_statement_tree result, first_fault.new) }
 {
     match vertex_function_named(function) {
-        Some(index) => StatementKind::ApplyVertex(slot, index),
+        Some(index) => SimpleStatement::ApplyVertex(slot, index),
         None => {
             if is_error_entity(function) {
                 nothing()

@@ -82,6 +82,23 @@ impl Vectors {
         Ok(vectors)
     }
 
+    /// How many vectors there are.
+    pub fn count(&self) -> usize
+        ensures { result ≡ length self.now.vectors }
+    {
+        self.locations.len()
+    }
+
+    /// How many entries a vector has: 0 if there is no such vector.
+    pub fn entries(&self, vector: usize) -> usize
+        ensures { result ≡ length (slice_index_or self.now.vectors vector []) }
+    {
+        match self.locations.get(vector) {
+            Some(location) => location.vertices,
+            None => 0,
+        }
+    }
+
     /// Puts all entries.
     fn load_all(&mut self, arrays: &[Sequence<i64>])
         requires count { length arrays.now ≡ length self.old.vectors }

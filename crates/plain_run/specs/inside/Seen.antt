@@ -2,8 +2,6 @@
 use Rattle.std.specs.Prelude.{Option, Some, None, List, ℤ}
 use Rattle.typed_tree.specs.declared.function.FunctionStatement.{FunctionStatement}
 use Rattle.typed_tree.specs.declared.function.FunctionStatement.TheVariants as step
-use Rattle.typed_tree.specs.declared.statement.StatementKind.{StatementKind}
-use Rattle.typed_tree.specs.declared.statement.StatementKind.TheVariants as rust
 use Rattle.plain_run.specs.declared.state.EdgeList.{EdgeList}
 use Rattle.plain_run.specs.declared.state.Environment.{Environment}
 use Rattle.plain_run.specs.declared.state.InterpreterState.{InterpreterState}
@@ -26,22 +24,6 @@ state_of s = record { vectors = s.vectors.items; sets = s.sets.items; scope = sc
 abbrev pub stand : Option End → StateValue → Stand
 stand None s = Live s
 stand (Some end) s = Over s end
-
--- the statement has no block
-abbrev pub HasNoBlock : StatementKind → Type 0
-HasNoBlock (rust.If' c shape body) = ⊥
-HasNoBlock (rust.IfElse' c shape body shape' other) = ⊥
-HasNoBlock (rust.While' c shape body) = ⊥
-HasNoBlock (rust.For' name first end shape body) = ⊥
-HasNoBlock action = Unit
-
--- the statement makes a set or goes over one
-abbrev pub IsOverSets : StatementKind → Type 0
-IsOverSets (rust.DeclareSet name value) = Unit
-IsOverSets (rust.AssignSet slot value) = Unit
-IsOverSets (rust.ApplyVertex set function) = Unit
-IsOverSets (rust.ApplyEdges ends function) = Unit
-IsOverSets action = ⊥
 
 -- what a function works on
 abbrev pub work_of : List (List ℤ) → FunctionFrame → WorkValue

@@ -6,7 +6,7 @@ use Rattle.ascending_lists.specs.Maps.{Rises, lookup}
 use Rattle.edge_updates.specs.declared.edge_update.EdgeUpdate.{EdgeUpdate}
 use Rattle.edge_updates.specs.EdgeUpdate.{vertex_of}
 use Rattle.edge_updates.specs.Updates.{Ascend}
-use Rattle.weighted_updates.specs.WeightedUpdates.{decided_weight}
+use Rattle.edge_updates.specs.Updates.{decided_weight}
 use Rattle.pages.specs.Updates.{AreOfBlock, EdgesAscend}
 use Rattle.vertex_blocks.specs.Changes.{BlockChange}
 use Rattle.tree_batch.specs.Edge.{Ends}

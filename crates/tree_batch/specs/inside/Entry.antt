@@ -3,7 +3,7 @@ use Rattle.std.specs.Prelude.{ℕ, MatchOption, ◌≡◌, ℤ, Option, Some, No
 use Rattle.weighted_edges.specs.Edge.{Edge}
 use Rattle.edge_updates.specs.declared.edge_update.EdgeUpdate.{EdgeUpdate}
 use Rattle.edge_updates.specs.EdgeUpdate.{vertex_of, neighbour_of}
-use Rattle.weighted_updates.specs.WeightedUpdates.{weight_said}
+use Rattle.edge_updates.specs.Updates.{weight_said}
 use Rattle.tree_batch.specs.declared.batch.Entry.{Entry}
 use Rattle.tree_batch.specs.Edge.{IsWithin, Ends, weight_in, IsAscending, named_by, made_by, weight_after}
 

@@ -1,12 +1,12 @@
 -- The updates of a batch, sorted, with their weights.
-use Rattle.std.specs.Prelude.{[], ℤ, List}
+use Rattle.std.specs.Prelude.{ℤ, List, map}
 use Rattle.edge_updates.specs.declared.edge_update.EdgeUpdate.{EdgeUpdate}
-use Rattle.edge_updates.specs.Weighted.{weighted}
-use Rattle.weighted_updates.specs.WeightedUpdates.{pairs_in}
+use Rattle.edge_updates.specs.Updates.{unit_pair}
+use Rattle.edge_updates.specs.WeightedUpdates.{pairs_in}
 use Rattle.tree_batch.specs.declared.updates.SortedUpdates.{SortedUpdates}
 use Rattle.tree_batch.specs.declared.updates.SortedUpdates.TheVariants as sorted
 
 -- each update with its weight
 abbrev pub sorted_pairs : SortedUpdates → List (EdgeUpdate × ℤ)
-sorted_pairs (sorted.Unweighted us) = weighted us.items []
+sorted_pairs (sorted.Unweighted us) = map unit_pair us.items
 sorted_pairs (sorted.Weighted us) = pairs_in us.items

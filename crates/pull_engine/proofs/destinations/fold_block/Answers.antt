@@ -1,10 +1,9 @@
 -- Proofs of `fold_block`, src/destinations.rt.
-use Rattle.std.proofs.Common.{rules, ◌≡◌, ◌+◌, ◌-◌, ◌*◌, ◌/◌, ◌%◌, ◌++◌, ℕ, List, [], ◌∷◌, bit_and, refl, sym, ap, ◌∙◌, subst, arith}
+use Rattle.std.proofs.Common.{rules, ◌≡◌, ◌+◌, ◌-◌, ◌*◌, ◌/◌, ◌++◌, ℕ, List, [], ◌∷◌, bit_and, refl, sym, ap, ◌∙◌, subst, arith}
 use Rattle.std.proofs.lemmas.List.{append-nil}
 use Rattle.std.specs.List.{filter, range_with_len}
 use lib.Count.{count_trailing_zeros}
 use Rattle.weighted_edges.specs.Edge.{Edge}
-use Rattle.pages.specs.Vertices.{neighbours_of}
 use Rattle.vertex_sets.specs.inside.Words.{bit_members}
 use Rattle.vertex_sets.proofs.BitMembers.{bits_lowest, bits_none}
 use Rattle.edge_fold.proofs.Walks.{FoldsMore, folded_along, walk_begun, walk_done, walk_more}
@@ -30,10 +29,10 @@ pub vertices-init : goal.vertices-init
 vertices-init c =
     let a = c.args in
     let lines = columns (passes_words a.input.from) a.input.flat.now.edges in
-    let all = bit_members 64 (64 * a.block) (bit_and a.word c.present.result) in (
+    let all = bit_members 64 (64 * a.block) (bit_and a.word c.present_in.result) in (
       all,
-      columns_begun (passes_words a.input.from) a.input.flat.now.edges a.block a.word c.present.result c.of.result.block.now
-          (λ v at. ap (neighbours_of (v % 64)) c.of.ensures ∙ c.in-Some.ensures v at) c.present.ensures,
+      columns_begun (passes_words a.input.from) a.input.flat.now.edges a.block a.word c.present_in.result c.in-Some.found.now
+          c.in-Some.ensures c.present_in.ensures,
       walk_begun a.input.context lines all a.scratch.now refl,
     )
 

@@ -1,13 +1,13 @@
-use Rattle.std.proofs.Common.{◌≡◌, ◌≤◌, [], length, take, vec_len}
+use Rattle.std.proofs.Common.{◌≡◌, ◌≤◌, length, map, take, vec_len}
 use Rattle.std.specs.Vec.{vec_capacity}
-use Rattle.edge_updates.specs.Weighted.{weighted}
-use Rattle.weighted_updates.specs.WeightedUpdates.{decided_weight}
+use Rattle.edge_updates.specs.Updates.{unit_pair}
+use Rattle.edge_updates.specs.Updates.{decided_weight}
 use Rattle.tree_batch.specs.Edge.{Ends, decision}
 use Rattle.tree_batch.proofs.updates.unsorted.Given as goal
 
 abbrev pub invariant-loop-entry : goal.invariant-loop-entry
 invariant-loop-entry l = record {
-  same : (p : Ends) → decided_weight (weighted l.updates.items []) p ≡ decision (take l.entry-index l.entries) p;
+  same : (p : Ends) → decided_weight (map unit_pair l.updates.items) p ≡ decision (take l.entry-index l.entries) p;
   len : vec_len l.updates ≤ l.entry-index;
   room : length l.entries ≤ vec_capacity l.updates;
 }

@@ -1,7 +1,7 @@
 -- Proofs of `unsorted_with_weights`, src/updates.rt.
 use Rattle.std.proofs.Common.{Some, None, vec_len, vec_capacity, sym, ap, ◌∙◌, arith}
 use Rattle.std.proofs.lemmas.List.{append-nil, map-append}
-use Rattle.weighted_updates.specs.WeightedUpdates.{pairs_in}
+use Rattle.edge_updates.specs.WeightedUpdates.{pairs_in, weighted_pair}
 use Rattle.tree_batch.proofs.Decided.{decided_more}
 use Rattle.tree_batch.proofs.updates.unsorted_with_weights.Goals.{in-Some, in_default}
 use Rattle.tree_batch.proofs.updates.unsorted_with_weights.Goals as goal
@@ -18,7 +18,7 @@ loop-entry-preserved c =
           let u = w.in-Some.update in
           record {
             same = decided_more entries index _ (pairs_in before.items) (pairs_in after.items) (Some (u.update, u.weight)) c.loop-entry-test.true w.in-Some.ensures
-                (ap (λ v. pairs_in v.items) w.updates-is ∙ ap pairs_in w.push_reserved.ensures.items ∙ map-append (λ w. (w.update, w.weight)) before.items _) known.same;
+                (ap (λ v. pairs_in v.items) w.updates-is ∙ ap pairs_in w.push_reserved.ensures.items ∙ map-append weighted_pair before.items _) known.same;
             len = omega (arith, ap (λ v. vec_len v) w.updates-is, w.push_reserved.ensures.len, known.len);
             room = omega (arith, ap (λ v. vec_capacity v) w.updates-is, w.push_reserved.ensures.capacity, known.room);
           }

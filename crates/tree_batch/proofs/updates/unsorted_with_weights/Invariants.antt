@@ -1,6 +1,7 @@
 use Rattle.std.proofs.Common.{◌≡◌, ◌≤◌, length, take, vec_len}
 use Rattle.std.specs.Vec.{vec_capacity}
-use Rattle.weighted_updates.specs.WeightedUpdates.{decided_weight, pairs_in}
+use Rattle.edge_updates.specs.Updates.{decided_weight}
+use Rattle.edge_updates.specs.WeightedUpdates.{pairs_in}
 use Rattle.tree_batch.specs.Edge.{Ends, decision}
 use Rattle.tree_batch.proofs.updates.unsorted_with_weights.Given as goal
 

@@ -1,7 +1,7 @@
 -- Proofs of `apply`, src/statement.rt.
 use Rattle.std.proofs.Common.{◌≡◌, ap, subst, sym, ◌∙◌}
 use Rattle.syntax.specs.SourceViews.{ends_tree}
-use Rattle.typed_tree.specs.BlockTree.{statement_kind_tree}
+use Rattle.typed_tree.specs.BlockTree.{simple_statement_tree}
 use Rattle.expression_types.specs.Faults.{outcome}
 use Rattle.types.specs.Statement.{applied, apply, has_ends}
 use Rattle.types.specs.inside.Applies.{apply_tree}
@@ -15,6 +15,6 @@ returns c =
     let ends = ends_tree c.args.ends.now in
     let a = apply_tree c.read_apply-apply.result in
     let new = c.read_apply-apply.new.first_fault in
-    subst (λ at. outcome c.args.first_fault.now (apply scope at c.args.target.now ends c.args.function.now) ≡ (statement_kind_tree c.apply_to.result, c.apply_to.new.first_fault)) c.at-at.ensures
+    subst (λ at. outcome c.args.first_fault.now (apply scope at c.args.target.now ends c.args.function.now) ≡ (simple_statement_tree c.apply_to.result, c.apply_to.new.first_fault)) c.at-at.ensures
     (apply_then scope c.args.target.now ends c.args.function.now c.args.first_fault.now new a (λ a. applied at a.target a.from a.to (has_ends ends) a.function) c.read_apply-apply.ensures
     ∙ ap (λ h. outcome new (applied at a.target a.from a.to h a.function)) (sym c.has_ends.ensures) ∙ c.apply_to.ensures)

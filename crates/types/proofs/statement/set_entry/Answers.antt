@@ -8,7 +8,7 @@ use Rattle.expression_types.specs.ValueTree.{value_tree}
 use Rattle.expression_types.proofs.Steps.{outcome_then}
 use Rattle.types.specs.Statement.{entry_set, set_entry}
 use Rattle.types.specs.Checker.{as_index, integer_in}
-use Rattle.typed_tree.specs.BlockTree.{statement_kind_tree}
+use Rattle.typed_tree.specs.BlockTree.{simple_statement_tree}
 use Rattle.types.proofs.statement.set_entry.Goals as goal
 
 pub returns : goal.returns
@@ -20,7 +20,7 @@ returns c =
     let i = option_map int_expression_tree c.index_of-index.result in
     let x = int_expression_tree c.in_ok-value.value in
     subst (λ at. outcome c.args.first_fault.now (set_entry scope at c.args.written.vector.now c.args.written.index.now c.args.value.now) ≡
-    (statement_kind_tree c.setting.result, c.integer.new.first_fault)) c.at-at.ensures
+    (simple_statement_tree c.setting.result, c.integer.new.first_fault)) c.at-at.ensures
     (outcome_then c.args.first_fault.now c.vector-vector.new.first_fault (vector_index scope at c.args.written.vector.now) vector
     (λ vector. value_of scope at c.args.written.index.now >>= λ v. as_index at v >>= λ i. integer_in scope at c.args.value.now >>= λ x. sure (entry_set vector i x)) c.vector-vector.ensures
     ∙ outcome_then c.vector-vector.new.first_fault c.type_expression.new.first_fault (value_of scope at c.args.written.index.now) v

@@ -1,0 +1,5 @@
+pub mod Copies
+pub mod EndTests
+pub mod Recording
+pub mod Former
+pub mod Known

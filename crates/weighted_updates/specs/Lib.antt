@@ -1,2 +1,0 @@
-pub mod WeightedUpdates
-pub mod inside

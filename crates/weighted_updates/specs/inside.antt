@@ -1,3 +1,0 @@
--- What the code is made of: no public contract cites these definitions.
-pub mod Lasts
-pub mod Widths
