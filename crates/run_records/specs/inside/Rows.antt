@@ -1,7 +1,0 @@
--- The rows of vectors.
-use Rattle.std.specs.Prelude.{◌≡◌, ℕ, ◌<◌, ℤ, List, [], length, slice_index_or}
-
--- there are so many vectors, each with an entry for each of n vertices and no more
-pub record HaveRows (count n : ℕ) (vectors : List (List ℤ)) : Type 0 where
-  pub count : length vectors ≡ count
-  pub rows : (x : ℕ) → x < count → length (slice_index_or vectors x []) ≡ n
