@@ -36,15 +36,15 @@ returns-clause-changes c m steps from to vectors sizes kernels is_from is_to x r
     let new = λ (es : List Edge). entry (after_edges steps m.sets m.vectors es m.vectors) x in
     let is_last = subst (λ (o : Option EndpointFilter). IsEndTest o m last) (sym c.untested-2.ensures) tests.untested in
     let sources = c.in_ok-sources.sources in
-    let tests = λ (n : ℕ). c.in_ok-sources.ensures.lets n m from is_from in
+    let from_tests = λ (n : ℕ). c.in_ok-sources.ensures.lets n m from is_from in
     let begun = c.in_ok-begin.ensures m steps are in
     let has : HasFolded c.context-context.result m steps edges c.match-untested.scratch = elim c.match-untested.branch [
       | in-None+in_ok-fold_words-in-None w ↦ subst (λ (s : Scratch). HasFolded c.context-context.result m steps edges s) (sym w.scratch-is)
           (folded_along c.context-context.result m steps _ edges w.fold_words.new.scratch
-          (between_same (passes_words w.words-in-None.result) from words g.edges (λ v. w.words-in-None.ensures v ∙ bits_are_all m from sources w.in-None.ensures tests v))
+          (between_same (passes_words w.words-in-None.result) from words g.edges (λ v. w.words-in-None.ensures v ∙ bits_are_all m from sources w.in-None.ensures from_tests v))
           (w.in_ok-fold_words-in-None.ensures m steps are begun))
       | in-Some+in_ok-fold_end-in-Some w ↦ subst (λ (s : Scratch). HasFolded c.context-context.result m steps edges s) (sym w.scratch-is)
-          (w.in_ok-fold_end-in-Some.ensures m steps from are (left_is_end m from w.in-Some.end sources w.in-Some.ensures tests) begun)
+          (w.in_ok-fold_end-in-Some.ensures m steps from are (left_is_end m from w.in-Some.end sources w.in-Some.ensures from_tests) begun)
     ] in
     c.in_ok-changes.ensures.changes m steps edges last are is_last has starts x r by (omega (arith, count, long))
     ∙ ap (λ (n : ℕ). changed n old (new (filter (λ e. last e.1) edges))) count
