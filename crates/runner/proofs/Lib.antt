@@ -10,4 +10,3 @@ pub mod Between
 pub mod WrittenChanges
 pub mod Resting
 pub mod HybridSources
-pub mod Uses
