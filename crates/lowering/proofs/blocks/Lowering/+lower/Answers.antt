@@ -4,18 +4,19 @@ use Rattle.std.proofs.lemmas.Result.{on_ok_weaker}
 use Rattle.typed_tree.specs.IntExpressionTree.{int_expression_tree}
 use Rattle.typed_tree.specs.BoolExpressionTree.{bool_expression_tree}
 use Rattle.typed_tree.specs.declared.statement.MainStatement.{MainStatement}
-use Rattle.typed_tree.specs.BlockTree.{If, IfElse, While, statement_kind_tree, block_tree}
+use Rattle.typed_tree.specs.BlockTree.{If, IfElse, While, simple_statement_tree, statement_kind_tree, block_tree}
 use Rattle.typed_tree.specs.ProgramTree.{program_tree}
 use Rattle.typed_tree.proofs.Blocks.{statement_kind_tree-If, statement_kind_tree-IfElse, statement_kind_tree-While, statement_kind_tree-For}
 use Rattle.plans.specs.Fusing.{fusion_role_of}
-use Rattle.plans.specs.Instruction.{UnlessBelow, Jump, Turn, Advance}
+use Rattle.plans.specs.Instruction.{Do, UnlessBelow, Jump, Turn, Advance}
 use Rattle.plans.specs.inside.Plan.{IsWithin}
-use Rattle.plans.specs.Plan.{depth_after, depth_after_all, depth_in_loop, loop_step, plain, plan, plan_all}
+use Rattle.plans.specs.Plan.{chosen, depth_after, depth_after_all, depth_in_loop, loop_step, plain, plan, plan_all}
 use Rattle.plans.proofs.Depths.{within_after_all}
 use Rattle.lowering.specs.inside.Putting.{BeginsLoop, Fills, Puts}
 use Rattle.lowering.specs.inside.Visible.{depth_of}
 use Rattle.lowering.proofs.Measures.{action_size, block_size, inner_falls}
 use Rattle.lowering.proofs.Putting.{puts_nothing}
+use Rattle.lowering.proofs.SimpleStatements.{simple_plan}
 use Rattle.lowering.proofs.Statements.{HasPut, after_none, has_put_all, has_put_next, has_put_none, puts_if, puts_apply_schedule, puts_while, puts_for}
 use Rattle.lowering.proofs.blocks.Lowering.+lower.Goals as goal
 
@@ -51,6 +52,20 @@ put_inside-returns-clause-visible t c =
     subst (λ x. IsWithin x (depth_of c.put_all.new.visible)) (sym c.depth-depth.ensures)
     (subst (λ x. IsWithin d x) (sym c.in_ok-put_all.ensures.visible) (within_after_all body d)) in
     c.cut.ensures within ∙ c.depth-depth.ensures
+
+pub put_statement-returns-in_ok-put_simple-in-Simple-clause-code : goal.put_statement-returns-in_ok-put_simple-in-Simple-clause-code
+put_statement-returns-in_ok-put_simple-in-Simple-clause-code t c =
+    let p = program_tree c.args.self.program.now in
+    let s = c.args.self.schedule.now in
+    let a = c.args.code.now.items in
+    let b = c.put_simple.new.code.items in
+    let d = depth_of c.args.visible.now in
+    let n = c.args.statement.now.number in
+    let label = c.args.statement.now.label in
+    let simple = c.in-Simple.simple in
+    let steps = ap (λ k. plan p s (length a) d n label k) (ap statement_kind_tree c.in-Simple.is) ∙ simple_plan p s (length a) d n label simple in
+    let put = subst (λ x. Puts p a b (chosen s n label x (Do (simple_statement_tree simple)) ∷ [])) c.depth.ensures c.in_ok-put_simple-in-Simple.ensures in
+    on_ok_weaker c.declare_simple.result (λ declared. subst (λ xs. Puts p a b xs) (sym steps) put) c.declare_simple.ensures
 
 pub put_statement-returns-in-If-clause-code : goal.put_statement-returns-in-If-clause-code
 put_statement-returns-in-If-clause-code t c =
