@@ -2,7 +2,6 @@
 
 ghost use Rattle.std.specs.Prelude.{◌≡◌, ◌↔◌, ◌++◌, [], IfOk, IsTrue, None, length};
 ghost use Rattle.std.specs.Map.{keys_of};
-ghost use Rattle.ascending_lists.specs.Maps.{IsMap};
 ghost use Rattle.ascending_lists.specs.Ascending.{Ascends};
 ghost use Rattle.c_tree.specs.Chunks.{before_head, chunks_of, IsSetOf};
 ghost use Rattle.c_tree.specs.inside.Cutting.{from_head};
@@ -13,7 +12,7 @@ use crate::ctree::CTree;
 use crate::error::CTreeError;
 use crate::part::Part;
 use crate::tail::ChunkTail;
-use shared_tree::{Tree, TreeError};
+use shared_tree::Tree;
 use std::alloc::{AllocError, Global};
 use tail_codec::{Entries, EntryList, TailWriter};
 
@@ -73,7 +72,7 @@ impl Part {
         let (front, rest) = split_at_head(chunk_size, entries);
         let prefix = writer.write(alloc, base, &front)?;
         let chunks = write_chunks(alloc, &mut writer, chunk_size, rest)?;
-        let chunks = tree_of(alloc, chunks)?;
+        let chunks = Tree::from_ascending(alloc, chunks)?;
         Ok(Part::new(prefix, chunks, chunk_size))
     }
 }
@@ -120,16 +119,4 @@ fn write_chunks(
         rest = next;
     }
     Ok(chunks)
-}
-
-/// The tree of chunks whose heads ascend.
-fn tree_of(alloc: Global, chunks: Vec<(u32, ChunkTail)>) -> Result<Tree<ChunkTail>, AllocError>
-    requires { IsMap chunks.items }
-    ensures { IfOk result (λ t. t.entries ≡ chunks.items) }
-{
-    match Tree::from_sorted(alloc, chunks) {
-        Ok(tree) => Ok(tree),
-        Err(TreeError::NoMemory) => Err(AllocError),
-        Err(TreeError::NotAscending) => unreachable!(),
-    }
 }

@@ -10,7 +10,6 @@ use Rattle.plans.specs.declared.instruction.Instruction.{Instruction}
 use Rattle.plans.specs.declared.operation.PlanOperation.{PlanOperation}
 use Rattle.plans.specs.declared.operation.PlanOperation.TheVariants as op
 use Rattle.plans.specs.declared.operation.ValueOperation.TheVariants as value_op
-use Rattle.plans.specs.declared.operation.EntryOperation.TheVariants as entry_op
 use Rattle.plans.specs.declared.operation.SetOperation.TheVariants as set_op
 use Rattle.plans.specs.declared.operation.ApplyOperation.TheVariants as apply_op
 use Rattle.plans.specs.declared.operation.ControlOperation.TheVariants as control_op
@@ -27,16 +26,10 @@ written_instructions p (i ∷ is) (t ∷ ts) all = (all.0.instruction, written_i
 
 -- an operation goes where its tree does
 pub target_words_of : (keep shown : Depth) (operation : PlanOperation) (o : OperationTree) → IsOperation keep shown operation o → indices_of operation ≡ target_words o
-target_words_of keep shown (op.Value (value_op.DeclareInt name k)) o h = ap target_words (sym h.is)
-target_words_of keep shown (op.Value (value_op.DeclareBool name k)) o h = ap target_words (sym h.is)
-target_words_of keep shown (op.Value (value_op.SetInt slot k)) o h = ap target_words (sym h.is)
-target_words_of keep shown (op.Value (value_op.SetBool slot k)) o h = ap target_words (sym h.is)
-target_words_of keep shown (op.Value (value_op.ReduceInt slot reduction k)) o h = ap target_words (sym h.is)
+target_words_of keep shown (op.Value (value_op.Int k used)) o h = ap target_words (sym h.is)
+target_words_of keep shown (op.Value (value_op.Bool k used)) o h = ap target_words (sym h.is)
 target_words_of keep shown (op.Value (value_op.AddVertex slot k)) o h = ap target_words (sym h.is)
-target_words_of keep shown (op.Value (value_op.PrintInt k)) o h = ap target_words (sym h.is)
-target_words_of keep shown (op.Value (value_op.PrintBool k)) o h = ap target_words (sym h.is)
-target_words_of keep shown (op.Entry (entry_op.SetEntry vector index k)) o h = ap target_words (sym h.is)
-target_words_of keep shown (op.Entry (entry_op.ReduceEntry vector index reduction k)) o h = ap target_words (sym h.is)
+target_words_of keep shown (op.Entry entry) o h = ap target_words (sym h.is)
 target_words_of keep shown (op.Set (set_op.DeclareSet name members)) o h = ap target_words (sym h)
 target_words_of keep shown (op.Set (set_op.AssignSet slot members)) o h = ap target_words (sym h)
 target_words_of keep shown (op.Apply (apply_op.ApplyVertices set first None)) o h = ap target_words (sym h)

@@ -15,14 +15,14 @@ ghost use Rattle.lowering.specs.Text.{IsWritten, operation_words, shown_part};
 ghost use Rattle.lowering.specs.inside.Visible.{depth_of};
 
 use crate::blocks::Lowering;
-use crate::operations::{bool_kernel, int_kernel, operation_of};
+use crate::operations::{bool_kernel, int_kernel, int_operation, operation_of};
 use crate::visible::Visible;
 use algorithm_meaning::Depth;
 use apply_options::ApplySchedule;
 use plan_text::{AppliedFunction, ChangedSet, Lines};
 use plans::{
-    ApplyOperation, ControlOperation, EdgePart, FusedPair, Instruction, PartResult, PlanOperation,
-    ValueOperation,
+    ApplyOperation, ControlOperation, EdgePart, FusedPair, Instruction, IntUse, PartResult,
+    PlanOperation,
 };
 use std::alloc::AllocError;
 use typed_tree::{BoolExpression, IntExpression, MainStatement, SimpleStatement};
@@ -209,13 +209,8 @@ impl Lowering<'_> {
             program: self.program,
         }
         .put_set_integer(&mut words, name, e)?;
-        let value = int_kernel(self.alloc, e, depth)?;
-        Ok(plain(
-            number,
-            depth,
-            PlanOperation::Value(ValueOperation::DeclareInt { name, value }),
-            words,
-        ))
+        let operation = int_operation(self.alloc, e, IntUse::Declare { name }, depth)?;
+        Ok(plain(number, depth, PlanOperation::Value(operation), words))
     }
 
     /// Puts that a `for`'s bound gets its value.

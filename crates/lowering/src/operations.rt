@@ -1,21 +1,20 @@
 //! Operations of statements without blocks, with the kernels of their expressions.
 ghost use Rattle.std.specs.Prelude.{◌≡◌, IfOk, Some};
-ghost use Rattle.typed_tree.specs.BlockTree.{ApplyVertex, AssignSet, DeclareSet, ReduceEntry, SetEntry, StatementKindTree, simple_statement_tree, value_statement_tree};
+ghost use Rattle.typed_tree.specs.BlockTree.{ApplyVertex, AssignSet, DeclareSet, StatementKindTree, simple_statement_tree, value_statement_tree};
 ghost use Rattle.typed_tree.specs.BoolExpressionTree.{bool_expression_tree};
 ghost use Rattle.typed_tree.specs.IntExpressionTree.{int_expression_tree};
 ghost use Rattle.kernels.specs.Kernels.{IsBoolKernel, IsIntKernel};
 ghost use Rattle.plans.specs.Fusing.{edge_apply_of};
 ghost use Rattle.plans.specs.Instruction.{Do};
-ghost use Rattle.plans.specs.Operation.{result_tree, IsFor, IsOperation};
+ghost use Rattle.plans.specs.Operation.{bool_statement, entry_statement, int_statement, result_tree, IsFor, IsOperation};
 ghost use Rattle.plans.specs.declared.operation.PlanOperation.TheVariants.{Value};
 ghost use Rattle.lowering.specs.inside.NewMembers.{value_of};
 
 use algorithm_meaning::Depth;
-use apply_options::Reduction;
 use kernels::ExpressionKernel;
 use plans::{
-    ApplyOperation, EdgePart, EntryOperation, PartResult, PlanOperation, SetExpression,
-    SetOperation, ValueOperation,
+    ApplyOperation, BoolUse, EdgePart, EntryOperation, EntryUse, IntUse, PartResult, PlanOperation,
+    SetExpression, SetOperation, ValueOperation,
 };
 use std::alloc::{AllocError, Global};
 use typed_tree::{
@@ -59,9 +58,18 @@ pub(crate) fn operation_of(
             let operation = value_operation(alloc, statement, depth)?;
             Ok(PlanOperation::Value(operation))
         }
-        SimpleStatement::SetEntry(vector, index, e) => set_entry(alloc, *vector, index, e, depth),
+        SimpleStatement::SetEntry(vector, index, e) => {
+            entry_operation(alloc, *vector, EntryUse::Set, index, e, depth)
+        }
         SimpleStatement::ReduceEntry(vector, index, reduction, e) => {
-            reduce_entry(alloc, *vector, index, *reduction, e, depth)
+            entry_operation(
+                alloc,
+                *vector,
+                EntryUse::Reduce(*reduction),
+                index,
+                e,
+                depth,
+            )
         }
         SimpleStatement::DeclareSet(name, value) => Ok(declare_set(*name, *value)),
         SimpleStatement::AssignSet(slot, value) => Ok(assign_set(*slot, *value)),
@@ -82,29 +90,23 @@ fn value_operation(
 {
     match statement {
         ValueStatement::DeclareInt(name, e) => {
-            let value = int_kernel(alloc, e, depth)?;
-            Ok(ValueOperation::DeclareInt { name: *name, value })
+            int_operation(alloc, e, IntUse::Declare { name: *name }, depth)
         }
         ValueStatement::DeclareBool(name, c) => {
-            let value = bool_kernel(alloc, c, depth)?;
-            Ok(ValueOperation::DeclareBool { name: *name, value })
+            bool_operation(alloc, c, BoolUse::Declare { name: *name }, depth)
         }
         ValueStatement::SetInt(slot, e) => {
-            let value = int_kernel(alloc, e, depth)?;
-            Ok(ValueOperation::SetInt { slot: *slot, value })
+            int_operation(alloc, e, IntUse::Set { slot: *slot }, depth)
         }
         ValueStatement::SetBool(slot, c) => {
-            let value = bool_kernel(alloc, c, depth)?;
-            Ok(ValueOperation::SetBool { slot: *slot, value })
+            bool_operation(alloc, c, BoolUse::Set { slot: *slot }, depth)
         }
         ValueStatement::ReduceInt(slot, reduction, e) => {
-            let (slot, reduction) = (*slot, *reduction);
-            let value = int_kernel(alloc, e, depth)?;
-            Ok(ValueOperation::ReduceInt {
-                slot,
-                reduction,
-                value,
-            })
+            let used = IntUse::Reduce {
+                slot: *slot,
+                reduction: *reduction,
+            };
+            int_operation(alloc, e, used, depth)
         }
         ValueStatement::AddVertex(slot, e) => {
             let vertex = int_kernel(alloc, e, depth)?;
@@ -113,54 +115,55 @@ fn value_operation(
                 vertex,
             })
         }
-        ValueStatement::PrintInt(e) => {
-            let value = int_kernel(alloc, e, depth)?;
-            Ok(ValueOperation::PrintInt { value })
-        }
-        ValueStatement::PrintBool(c) => {
-            let value = bool_kernel(alloc, c, depth)?;
-            Ok(ValueOperation::PrintBool { value })
-        }
+        ValueStatement::PrintInt(e) => int_operation(alloc, e, IntUse::Print, depth),
+        ValueStatement::PrintBool(c) => bool_operation(alloc, c, BoolUse::Print, depth),
     }
 }
 
-/// The entry of a vector at an index gets a value.
-fn set_entry(
+/// The value of an `int` expression, where so much is visible, and what is done with it.
+pub(crate) fn int_operation(
     alloc: Global,
-    vector: usize,
-    index: &IntExpression,
     e: &IntExpression,
+    used: IntUse,
     depth: Depth,
-) -> Result<PlanOperation, AllocError>
-    ensures { IfOk result (λ o. IsOperation depth depth o (Do (SetEntry vector (int_expression_tree index.now) (int_expression_tree e.now)))) }
+) -> Result<ValueOperation, AllocError>
+    ensures { IfOk result (λ o. IsOperation depth depth (Value o) (Do (int_statement used (int_expression_tree e.now)))) }
 {
-    let index = int_kernel(alloc, index, depth)?;
     let value = int_kernel(alloc, e, depth)?;
-    Ok(PlanOperation::Entry(EntryOperation::SetEntry {
-        vector,
-        index,
-        value,
-    }))
+    Ok(ValueOperation::Int { value, used })
 }
 
-/// The entry of a vector at an index is reduced with a value.
-fn reduce_entry(
+/// The value of a `bool` expression, where so much is visible, and what is done with it.
+fn bool_operation(
+    alloc: Global,
+    c: &BoolExpression,
+    used: BoolUse,
+    depth: Depth,
+) -> Result<ValueOperation, AllocError>
+    ensures { IfOk result (λ o. IsOperation depth depth (Value o) (Do (bool_statement used (bool_expression_tree c.now)))) }
+{
+    let value = bool_kernel(alloc, c, depth)?;
+    Ok(ValueOperation::Bool { value, used })
+}
+
+/// Writes to the entry of a vector at an index, where so much is visible.
+fn entry_operation(
     alloc: Global,
     vector: usize,
+    used: EntryUse,
     index: &IntExpression,
-    reduction: Reduction,
     e: &IntExpression,
     depth: Depth,
 ) -> Result<PlanOperation, AllocError>
-    ensures { IfOk result (λ o. IsOperation depth depth o (Do (ReduceEntry vector (int_expression_tree index.now) reduction (int_expression_tree e.now)))) }
+    ensures { IfOk result (λ o. IsOperation depth depth o (Do (entry_statement vector used (int_expression_tree index.now) (int_expression_tree e.now)))) }
 {
     let index = int_kernel(alloc, index, depth)?;
     let value = int_kernel(alloc, e, depth)?;
-    Ok(PlanOperation::Entry(EntryOperation::ReduceEntry {
+    Ok(PlanOperation::Entry(EntryOperation {
         vector,
         index,
-        reduction,
         value,
+        used,
     }))
 }
 

@@ -4,8 +4,7 @@ use Rattle.typed_tree.specs.declared.expression.VarRef.{VarRef}
 use Rattle.typed_tree.specs.declared.statement.ApplyEnds.{ApplyEnds}
 use Rattle.typed_tree.specs.IntExpressionTree.{IntExpressionTree}
 use Rattle.typed_tree.specs.BoolExpressionTree.{BoolExpressionTree, Literal}
-use Rattle.typed_tree.specs.BlockTree.{StatementKindTree, DeclareInt, DeclareBool, SetInt, SetBool, ReduceInt, SetEntry, ReduceEntry, DeclareSet, AssignSet, AddVertex}
-use Rattle.typed_tree.specs.BlockTree.{PrintInt, PrintBool, ApplyVertex}
+use Rattle.typed_tree.specs.BlockTree.{StatementKindTree, DeclareSet, AssignSet, AddVertex, ApplyVertex}
 use Rattle.algorithm_meaning.specs.declared.state.Depth.{Depth}
 use Rattle.plans.specs.Instruction.{EdgePartTree, OperationTree, Do, ApplyEdgesTogether, ApplyVerticesTogether, Unless, Enter, UnlessBelow, Advance, Turn, Jump, End, InstructionTree}
 use Rattle.algorithm_meaning.specs.declared.state.LoopCounter.{LoopCounter}
@@ -21,12 +20,11 @@ use Rattle.std.proofs.Math.Bridge.{le_prop}
 use Rattle.std.proofs.Math.Logic.{∥∥₁_elim}
 use Rattle.std.proofs.lemmas.List.{length-map}
 use Rattle.plans.specs.Bound.{uses_turn, is_turn, rank_by, rank_where, most_steps}
-use Rattle.plans.specs.Operation.{part_tree, set_value, IsOperation, AreInstructions}
+use Rattle.plans.specs.Operation.{bool_statement, entry_statement, int_statement, part_tree, set_value, IsOperation, AreInstructions}
 use Rattle.plans.specs.declared.instruction.Instruction.{Instruction}
 use Rattle.plans.specs.declared.operation.PlanOperation.{PlanOperation}
 use Rattle.plans.specs.declared.operation.PlanOperation.TheVariants as op
 use Rattle.plans.specs.declared.operation.ValueOperation.TheVariants as value_op
-use Rattle.plans.specs.declared.operation.EntryOperation.TheVariants as entry_op
 use Rattle.plans.specs.declared.operation.SetOperation.TheVariants as set_op
 use Rattle.plans.specs.declared.operation.ApplyOperation.TheVariants as apply_op
 use Rattle.plans.specs.declared.operation.ControlOperation.TheVariants as control_op
@@ -91,16 +89,10 @@ jump_alike to = record { turn = refl; rank = λ count index b. by_test count ind
 
 -- of an operation it sees the outline
 sees_alike : (keep shown : Depth) (o : PlanOperation) (t : OperationTree) → IsOperation keep shown o t → SameBound (outline o) t
-sees_alike keep shown (op.Value (value_op.DeclareInt name k)) t is = subst (SameBound End) (sym is.is) (do_alike (DeclareInt name is.tree))
-sees_alike keep shown (op.Value (value_op.DeclareBool name k)) t is = subst (SameBound End) (sym is.is) (do_alike (DeclareBool name is.tree))
-sees_alike keep shown (op.Value (value_op.SetInt slot k)) t is = subst (SameBound End) (sym is.is) (do_alike (SetInt slot is.tree))
-sees_alike keep shown (op.Value (value_op.SetBool slot k)) t is = subst (SameBound End) (sym is.is) (do_alike (SetBool slot is.tree))
-sees_alike keep shown (op.Value (value_op.ReduceInt slot reduction k)) t is = subst (SameBound End) (sym is.is) (do_alike (ReduceInt slot reduction is.tree))
+sees_alike keep shown (op.Value (value_op.Int k used)) t is = subst (SameBound End) (sym is.is) (do_alike (int_statement used is.tree))
+sees_alike keep shown (op.Value (value_op.Bool k used)) t is = subst (SameBound End) (sym is.is) (do_alike (bool_statement used is.tree))
 sees_alike keep shown (op.Value (value_op.AddVertex slot k)) t is = subst (SameBound End) (sym is.is) (do_alike (AddVertex slot is.tree))
-sees_alike keep shown (op.Value (value_op.PrintInt k)) t is = subst (SameBound End) (sym is.is) (do_alike (PrintInt is.tree))
-sees_alike keep shown (op.Value (value_op.PrintBool k)) t is = subst (SameBound End) (sym is.is) (do_alike (PrintBool is.tree))
-sees_alike keep shown (op.Entry (entry_op.SetEntry vector index k)) t is = subst (SameBound End) (sym is.is) (do_alike (SetEntry vector is.index_tree is.value_tree))
-sees_alike keep shown (op.Entry (entry_op.ReduceEntry vector index reduction k)) t is = subst (SameBound End) (sym is.is) (do_alike (ReduceEntry vector is.index_tree reduction is.value_tree))
+sees_alike keep shown (op.Entry entry) t is = subst (SameBound End) (sym is.is) (do_alike (entry_statement entry.vector entry.used is.index_tree is.value_tree))
 sees_alike keep shown (op.Set (set_op.DeclareSet name members)) t is = subst (SameBound End) (sym is) (do_alike (DeclareSet name (set_value members)))
 sees_alike keep shown (op.Set (set_op.AssignSet slot members)) t is = subst (SameBound End) (sym is) (do_alike (AssignSet slot (set_value members)))
 sees_alike keep shown (op.Apply (apply_op.ApplyVertices set first None)) t is = subst (SameBound End) (sym is) (do_alike (ApplyVertex set first))

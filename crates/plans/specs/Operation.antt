@@ -25,9 +25,14 @@ use Rattle.plans.specs.declared.part.PartResult.{PartResult}
 use Rattle.plans.specs.declared.set_expression.SetExpression.{SetExpression}
 use Rattle.plans.specs.declared.set_expression.SetExpression.TheVariants.{Nothing, All, Copy, Filter}
 use Rattle.plans.specs.declared.functions.FunctionKernels.{FunctionKernels}
+use Rattle.plans.specs.declared.operation.IntUse.{IntUse}
+use Rattle.plans.specs.declared.operation.BoolUse.{BoolUse}
+use Rattle.plans.specs.declared.operation.EntryUse.{EntryUse}
+use Rattle.plans.specs.declared.operation.EntryUse.TheVariants as entry_use
+use Rattle.plans.specs.declared.operation.IntUse.TheVariants as int_use
+use Rattle.plans.specs.declared.operation.BoolUse.TheVariants as bool_use
 use Rattle.plans.specs.declared.operation.PlanOperation.TheVariants as op
 use Rattle.plans.specs.declared.operation.ValueOperation.TheVariants as value_op
-use Rattle.plans.specs.declared.operation.EntryOperation.TheVariants as entry_op
 use Rattle.plans.specs.declared.operation.SetOperation.TheVariants as set_op
 use Rattle.plans.specs.declared.operation.ApplyOperation.TheVariants as apply_op
 use Rattle.plans.specs.declared.operation.ControlOperation.TheVariants as control_op
@@ -87,18 +92,29 @@ set_value All = set.All
 set_value (Copy slot) = set.Copy slot
 set_value (Filter slot function) = set.Filter slot function
 
+-- the statement that uses the value of an expression so
+abbrev pub int_statement : IntUse → IntExpressionTree → StatementKindTree
+int_statement (int_use.Declare name) e = DeclareInt name e
+int_statement (int_use.Set slot) e = SetInt slot e
+int_statement (int_use.Reduce slot reduction) e = ReduceInt slot reduction e
+int_statement int_use.Print e = PrintInt e
+
+abbrev pub bool_statement : BoolUse → BoolExpressionTree → StatementKindTree
+bool_statement (bool_use.Declare name) c = DeclareBool name c
+bool_statement (bool_use.Set slot) c = SetBool slot c
+bool_statement bool_use.Print c = PrintBool c
+
+-- the statement that writes to an entry so
+abbrev pub entry_statement : (vector : ℕ) → EntryUse → (index e : IntExpressionTree) → StatementKindTree
+entry_statement vector entry_use.Set index e = SetEntry vector index e
+entry_statement vector (entry_use.Reduce reduction) index e = ReduceEntry vector index reduction e
+
 -- the operation is this one, where so much is kept and so much is shown
 abbrev pub IsOperation : (keep shown : Depth) → PlanOperation → OperationTree → Type 0
-IsOperation keep shown (op.Value (value_op.DeclareInt name k)) o = HasInteger keep k (λ e. Do (DeclareInt name e)) o
-IsOperation keep shown (op.Value (value_op.DeclareBool name k)) o = HasCondition keep k (λ c. Do (DeclareBool name c)) o
-IsOperation keep shown (op.Value (value_op.SetInt slot k)) o = HasInteger keep k (λ e. Do (SetInt slot e)) o
-IsOperation keep shown (op.Value (value_op.SetBool slot k)) o = HasCondition keep k (λ c. Do (SetBool slot c)) o
-IsOperation keep shown (op.Value (value_op.ReduceInt slot reduction k)) o = HasInteger keep k (λ e. Do (ReduceInt slot reduction e)) o
+IsOperation keep shown (op.Value (value_op.Int k used)) o = HasInteger keep k (λ e. Do (int_statement used e)) o
+IsOperation keep shown (op.Value (value_op.Bool k used)) o = HasCondition keep k (λ c. Do (bool_statement used c)) o
 IsOperation keep shown (op.Value (value_op.AddVertex slot k)) o = HasInteger keep k (λ e. Do (AddVertex slot e)) o
-IsOperation keep shown (op.Value (value_op.PrintInt k)) o = HasInteger keep k (λ e. Do (PrintInt e)) o
-IsOperation keep shown (op.Value (value_op.PrintBool k)) o = HasCondition keep k (λ c. Do (PrintBool c)) o
-IsOperation keep shown (op.Entry (entry_op.SetEntry vector index k)) o = HasEntry keep index k (λ i e. Do (SetEntry vector i e)) o
-IsOperation keep shown (op.Entry (entry_op.ReduceEntry vector index reduction k)) o = HasEntry keep index k (λ i e. Do (ReduceEntry vector i reduction e)) o
+IsOperation keep shown (op.Entry entry) o = HasEntry keep entry.index entry.value (λ i e. Do (entry_statement entry.vector entry.used i e)) o
 IsOperation keep shown (op.Set (set_op.DeclareSet name members)) o = o ≡ Do (DeclareSet name (set_value members))
 IsOperation keep shown (op.Set (set_op.AssignSet slot members)) o = o ≡ Do (AssignSet slot (set_value members))
 IsOperation keep shown (op.Apply (apply_op.ApplyVertices set first None)) o = o ≡ Do (ApplyVertex set first)

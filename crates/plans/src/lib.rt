@@ -36,7 +36,8 @@ pub use laws::{
     plans_do_what_programs_do, steps_lower_their_bound,
 };
 pub use operation::{
-    ApplyOperation, ControlOperation, EntryOperation, PlanOperation, SetOperation, ValueOperation,
+    ApplyOperation, BoolUse, ControlOperation, EntryOperation, EntryUse, IntUse, PlanOperation,
+    SetOperation, ValueOperation,
 };
 pub use part::{EdgeApply, EdgePart, FusedPair, PartResult, VertexApply};
 pub use plan::Plan;

@@ -17,55 +17,53 @@ pub enum PlanOperation {
 
 /// Takes the value of an expression, and writes to no vector.
 pub enum ValueOperation {
-    DeclareInt {
-        name: usize,
+    Int {
         value: ExpressionKernel,
+        used: IntUse,
     },
-    DeclareBool {
-        name: usize,
+    Bool {
         value: ExpressionKernel,
-    },
-    SetInt {
-        slot: VarRef,
-        value: ExpressionKernel,
-    },
-    SetBool {
-        slot: VarRef,
-        value: ExpressionKernel,
-    },
-    ReduceInt {
-        slot: VarRef,
-        reduction: Reduction,
-        value: ExpressionKernel,
+        used: BoolUse,
     },
     /// The set gets a vertex.
     AddVertex {
         slot: VarRef,
         vertex: ExpressionKernel,
     },
-    PrintInt {
-        value: ExpressionKernel,
-    },
-    PrintBool {
-        value: ExpressionKernel,
-    },
+}
+
+/// What is done with a value of type `int`.
+#[derive(Clone, Copy, Debug, PartialEq, Eq)]
+pub enum IntUse {
+    /// A new variable has it.
+    Declare { name: usize },
+    Set { slot: VarRef },
+    Reduce { slot: VarRef, reduction: Reduction },
+    Print,
+}
+
+/// What is done with a value of type `bool`.
+#[derive(Clone, Copy, Debug, PartialEq, Eq)]
+pub enum BoolUse {
+    /// A new variable has it.
+    Declare { name: usize },
+    Set { slot: VarRef },
+    Print,
 }
 
 /// Writes to the entry of a vector at an index.
-pub enum EntryOperation {
-    /// The entry gets a value.
-    SetEntry {
-        vector: usize,
-        index: ExpressionKernel,
-        value: ExpressionKernel,
-    },
-    /// The entry is reduced with a value.
-    ReduceEntry {
-        vector: usize,
-        index: ExpressionKernel,
-        reduction: Reduction,
-        value: ExpressionKernel,
-    },
+pub struct EntryOperation {
+    pub vector: usize,
+    pub index: ExpressionKernel,
+    pub value: ExpressionKernel,
+    pub used: EntryUse,
+}
+
+/// How an entry gets a value.
+#[derive(Clone, Copy, Debug, PartialEq, Eq)]
+pub enum EntryUse {
+    Set,
+    Reduce(Reduction),
 }
 
 /// Gives a vertex set its members.
@@ -129,37 +127,21 @@ impl Drop for PlanOperation {
 impl Drop for ValueOperation {
     fn drop(self) {
         match self {
-            ValueOperation::DeclareInt { name: _, value: _ }
-            | ValueOperation::DeclareBool { name: _, value: _ }
-            | ValueOperation::SetInt { slot: _, value: _ }
-            | ValueOperation::SetBool { slot: _, value: _ }
-            | ValueOperation::ReduceInt {
-                slot: _,
-                reduction: _,
-                value: _,
-            }
-            | ValueOperation::AddVertex { slot: _, vertex: _ }
-            | ValueOperation::PrintInt { value: _ }
-            | ValueOperation::PrintBool { value: _ } => {}
+            ValueOperation::Int { value: _, used: _ }
+            | ValueOperation::Bool { value: _, used: _ }
+            | ValueOperation::AddVertex { slot: _, vertex: _ } => {}
         }
     }
 }
 
 impl Drop for EntryOperation {
     fn drop(self) {
-        match self {
-            EntryOperation::SetEntry {
-                vector: _,
-                index: _,
-                value: _,
-            }
-            | EntryOperation::ReduceEntry {
-                vector: _,
-                index: _,
-                reduction: _,
-                value: _,
-            } => {}
-        }
+        let EntryOperation {
+            vector: _,
+            index: _,
+            value: _,
+            used: _,
+        } = self;
     }
 }
 

@@ -10,3 +10,4 @@ pub mod Between
 pub mod WrittenChanges
 pub mod Resting
 pub mod HybridSources
+pub mod Uses

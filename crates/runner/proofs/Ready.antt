@@ -15,7 +15,6 @@ use Rattle.plans.specs.declared.instruction.Instruction.{Instruction}
 use Rattle.plans.specs.declared.operation.PlanOperation.{PlanOperation}
 use Rattle.plans.specs.declared.operation.PlanOperation.TheVariants as op
 use Rattle.plans.specs.declared.operation.ValueOperation.TheVariants as value_op
-use Rattle.plans.specs.declared.operation.EntryOperation.TheVariants as entry_op
 use Rattle.plans.specs.declared.operation.ControlOperation.TheVariants as control_op
 use Rattle.plans.specs.declared.plan.Plan.{Plan}
 use Rattle.plans.specs.Operation.{kernel_at, IsFor, IsInstruction, IsOperation}
@@ -25,16 +24,10 @@ use Rattle.runner.proofs.Partners.{partner_at}
 
 -- an operation of a tree is ready
 ready : (keep shown : Depth) (o : PlanOperation) (t : OperationTree) → IsOperation keep shown o t → IsReady keep shown o
-ready keep shown (op.Value (value_op.DeclareInt name k)) t is = is.visible
-ready keep shown (op.Value (value_op.DeclareBool name k)) t is = is.visible
-ready keep shown (op.Value (value_op.SetInt slot k)) t is = is.visible
-ready keep shown (op.Value (value_op.SetBool slot k)) t is = is.visible
-ready keep shown (op.Value (value_op.ReduceInt slot reduction k)) t is = is.visible
+ready keep shown (op.Value (value_op.Int k used)) t is = is.visible
+ready keep shown (op.Value (value_op.Bool k used)) t is = is.visible
 ready keep shown (op.Value (value_op.AddVertex slot k)) t is = is.visible
-ready keep shown (op.Value (value_op.PrintInt k)) t is = is.visible
-ready keep shown (op.Value (value_op.PrintBool k)) t is = is.visible
-ready keep shown (op.Entry (entry_op.SetEntry vector index k)) t is = (is.index_visible, is.value_visible)
-ready keep shown (op.Entry (entry_op.ReduceEntry vector index reduction k)) t is = (is.index_visible, is.value_visible)
+ready keep shown (op.Entry entry) t is = (is.index_visible, is.value_visible)
 ready keep shown (op.Set set) t is = tt
 ready keep shown (op.Apply apply) t is = tt
 ready keep shown (op.Control (control_op.Unless k to)) t is = is.visible
@@ -50,16 +43,10 @@ for_once : (d : Depth) (k : ExpressionKernel) (x y : IsFor d k) → x ≡ y
 for_once d k x y = λ i. record { integers = ℕ_set _ _ x.integers y.integers i; conditions = ℕ_set _ _ x.conditions y.conditions i }
 
 ready_once : (keep shown : Depth) (o : PlanOperation) (x y : IsReady keep shown o) → x ≡ y
-ready_once keep shown (op.Value (value_op.DeclareInt name k)) x y = for_once keep k x y
-ready_once keep shown (op.Value (value_op.DeclareBool name k)) x y = for_once keep k x y
-ready_once keep shown (op.Value (value_op.SetInt slot k)) x y = for_once keep k x y
-ready_once keep shown (op.Value (value_op.SetBool slot k)) x y = for_once keep k x y
-ready_once keep shown (op.Value (value_op.ReduceInt slot reduction k)) x y = for_once keep k x y
+ready_once keep shown (op.Value (value_op.Int k used)) x y = for_once keep k x y
+ready_once keep shown (op.Value (value_op.Bool k used)) x y = for_once keep k x y
 ready_once keep shown (op.Value (value_op.AddVertex slot k)) x y = for_once keep k x y
-ready_once keep shown (op.Value (value_op.PrintInt k)) x y = for_once keep k x y
-ready_once keep shown (op.Value (value_op.PrintBool k)) x y = for_once keep k x y
-ready_once keep shown (op.Entry (entry_op.SetEntry vector index k)) x y = λ i. (for_once keep index x.0 y.0 i, for_once keep k x.1 y.1 i)
-ready_once keep shown (op.Entry (entry_op.ReduceEntry vector index reduction k)) x y = λ i. (for_once keep index x.0 y.0 i, for_once keep k x.1 y.1 i)
+ready_once keep shown (op.Entry entry) x y = λ i. (for_once keep entry.index x.0 y.0 i, for_once keep entry.value x.1 y.1 i)
 ready_once keep shown (op.Set set) x y = refl
 ready_once keep shown (op.Apply apply) x y = refl
 ready_once keep shown (op.Control (control_op.Unless k to)) x y = for_once keep k x y

@@ -4,3 +4,4 @@ pub mod Groups
 pub mod Employment
 pub mod Done
 pub mod ChangedSets
+pub mod Uses

@@ -1,86 +1,53 @@
 //! Statements on entries of vectors and members of sets.
 ghost use Rattle.std.specs.Prelude.{◌≡◌, ℕ, IfOk, OnErr};
-ghost use Rattle.typed_tree.specs.BlockTree.{AddVertex, ReduceEntry, SetEntry};
+ghost use Rattle.typed_tree.specs.BlockTree.{AddVertex};
 ghost use Rattle.typed_tree.specs.ProgramTree.{ProgramTree};
 ghost use Rattle.algorithm_meaning.specs.State.{GraphValue};
 ghost use Rattle.plans.specs.Instruction.{Do, OperationTree};
-ghost use Rattle.plans.specs.Operation.{HasEntry, HasInteger, IsFor};
-ghost use Rattle.runner.specs.inside.Done.{HasDone, IsAsBefore, IsKept};
+ghost use Rattle.plans.specs.declared.operation.PlanOperation.TheVariants as op;
+ghost use Rattle.run_state.specs.State.{with_state};
+ghost use Rattle.plans.specs.Operation.{HasInteger, IsFor, IsOperation};
+ghost use Rattle.runner.specs.inside.Done.{HasDone, IsAsBefore, IsKept, IsReady};
 ghost use Rattle.runner.specs.inside.Position.{IsOn};
+ghost use Rattle.runner.specs.inside.Uses.{state_with_entry};
 
 use crate::flow::Flow;
 use crate::memory::Memory;
-use apply_options::Reduction;
 use kernels::ExpressionKernel;
-use plans::Instruction;
+use plans::{EntryOperation, EntryUse, Instruction};
+use run_state::State;
 use std::alloc::AllocError;
 use typed_tree::VarRef;
 
 impl Memory {
-    /// An entry of a vector gets a value.
-    pub(crate) fn set_entry(
+    /// Writes the value of an expression to the entry of a vector at an index.
+    pub(crate) fn write_entry(
         &mut self,
         instruction: &Instruction,
-        vector: usize,
-        index: &ExpressionKernel,
-        value: &ExpressionKernel,
+        entry: &EntryOperation,
     ) -> Result<Flow, AllocError>
         requires kept { IsKept instruction.now.keep self.old.state.state }
-        requires index { IsFor instruction.now.keep index.now }
-        requires value { IsFor instruction.now.keep value.now }
+        requires ready { IsReady instruction.now.keep instruction.now.shown (op.Entry entry.now) }
         ensures done { IfOk result (λ flow. (p : ProgramTree) (g : GraphValue) (t : OperationTree) → IsOn g self.old
-            → HasEntry instruction.now.keep index.now value.now (λ i e. Do (SetEntry vector i e)) t → HasDone instruction.now flow self.old self.new p g t) }
+            → IsOperation instruction.now.keep instruction.now.shown (op.Entry entry.now) t → HasDone instruction.now flow self.old self.new p g t) }
         ensures vertices { self.new.state.vertices ≡ self.old.state.vertices }
         ensures groups { self.new.state.groups ≡ self.old.state.groups }
         ensures err { OnErr result (IsAsBefore self.old self.new) }
     {
         let vertex = self
             .state
-            .vertex(index, instruction.keep, &mut self.registers)?;
+            .vertex(&entry.index, instruction.keep, &mut self.registers)?;
+        let Some(vertex) = vertex else {
+            return Ok(Flow::Fault);
+        };
         let number = self
             .state
-            .eval_int(value, instruction.keep, &mut self.registers)?;
-        match (vertex, number) {
-            (Some(vertex), Some(number)) => {
-                self.state.set_entry(vector, vertex, number);
-                Ok(Flow::Next)
-            }
-            _ => Ok(Flow::Fault),
-        }
-    }
-
-    /// An entry of a vector is reduced with a value.
-    pub(crate) fn reduce_entry(
-        &mut self,
-        instruction: &Instruction,
-        vector: usize,
-        index: &ExpressionKernel,
-        reduction: Reduction,
-        value: &ExpressionKernel,
-    ) -> Result<Flow, AllocError>
-        requires kept { IsKept instruction.now.keep self.old.state.state }
-        requires index { IsFor instruction.now.keep index.now }
-        requires value { IsFor instruction.now.keep value.now }
-        ensures done { IfOk result (λ flow. (p : ProgramTree) (g : GraphValue) (t : OperationTree) → IsOn g self.old
-            → HasEntry instruction.now.keep index.now value.now (λ i e. Do (ReduceEntry vector i reduction e)) t
-            → HasDone instruction.now flow self.old self.new p g t) }
-        ensures vertices { self.new.state.vertices ≡ self.old.state.vertices }
-        ensures groups { self.new.state.groups ≡ self.old.state.groups }
-        ensures err { OnErr result (IsAsBefore self.old self.new) }
-    {
-        let vertex = self
-            .state
-            .vertex(index, instruction.keep, &mut self.registers)?;
-        let number = self
-            .state
-            .eval_int(value, instruction.keep, &mut self.registers)?;
-        match (vertex, number) {
-            (Some(vertex), Some(number)) => {
-                self.state.reduce_entry(vector, vertex, reduction, number);
-                Ok(Flow::Next)
-            }
-            _ => Ok(Flow::Fault),
-        }
+            .eval_int(&entry.value, instruction.keep, &mut self.registers)?;
+        let Some(number) = number else {
+            return Ok(Flow::Fault);
+        };
+        put_entry(&mut self.state, entry.vector, entry.used, vertex, number);
+        Ok(Flow::Next)
     }
 
     /// A set gets a vertex.
@@ -109,5 +76,15 @@ impl Memory {
             }
             None => Ok(Flow::Fault),
         }
+    }
+}
+
+/// Writes a number to the entry of a vector at a vertex; where there is none nothing is changed.
+fn put_entry(state: &mut State, vector: usize, used: EntryUse, vertex: u32, number: i64)
+    ensures { state.new ≡ with_state state.old (state_with_entry vector used vertex number state.old.state) }
+{
+    match used {
+        EntryUse::Set => state.set_entry(vector, vertex, number),
+        EntryUse::Reduce(reduction) => state.reduce_entry(vector, vertex, reduction, number),
     }
 }

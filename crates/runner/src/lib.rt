@@ -34,7 +34,6 @@ mod flow;
 mod job;
 mod memory;
 mod plan_run;
-mod printing;
 mod run_error;
 mod sets;
 mod steps;

@@ -25,8 +25,8 @@ use crate::plan_run::PlanRun;
 use algorithm_meaning::End;
 use flat_snapshot::Flat;
 use plans::{
-    ApplyOperation, ControlOperation, EntryOperation, FunctionKernels, Instruction, Plan,
-    PlanOperation, SetOperation, ValueOperation,
+    ApplyOperation, ControlOperation, FunctionKernels, Instruction, Plan, PlanOperation,
+    SetOperation, ValueOperation,
 };
 use std::alloc::{AllocError, Global};
 
@@ -123,43 +123,9 @@ impl Memory {
         ensures err { OnErr result (IsAsBefore self.old self.new) }
     {
         match value {
-            ValueOperation::DeclareInt { name: _, value } => self.declare_int(i, value),
-            ValueOperation::DeclareBool { name: _, value } => self.declare_bool(i, value),
-            ValueOperation::SetInt { slot, value } => self.set_int(i, *slot, value),
-            ValueOperation::SetBool { slot, value } => self.set_bool(i, *slot, value),
-            ValueOperation::ReduceInt {
-                slot,
-                reduction,
-                value,
-            } => self.reduce_int(i, *slot, *reduction, value),
+            ValueOperation::Int { value, used } => self.use_int(i, value, *used),
+            ValueOperation::Bool { value, used } => self.use_bool(i, value, *used),
             ValueOperation::AddVertex { slot, vertex } => self.add_vertex(i, *slot, vertex),
-            ValueOperation::PrintInt { value } => self.print_int(i, value),
-            ValueOperation::PrintBool { value } => self.print_bool(i, value),
-        }
-    }
-
-    /// Does an instruction that writes to an entry of a vector.
-    fn write_entry(&mut self, i: &Instruction, entry: &EntryOperation) -> Result<Flow, AllocError>
-        requires kept { IsKept i.now.keep self.old.state.state }
-        requires ready { IsReady i.now.keep i.now.shown (op.Entry entry.now) }
-        ensures done { IfOk result (λ flow. (p : ProgramTree) (g : GraphValue) (t : OperationTree) → IsOn g self.old
-            → IsOperation i.now.keep i.now.shown (op.Entry entry.now) t → HasDone i.now flow self.old self.new p g t) }
-        ensures vertices { self.new.state.vertices ≡ self.old.state.vertices }
-        ensures groups { self.new.state.groups ≡ self.old.state.groups }
-        ensures err { OnErr result (IsAsBefore self.old self.new) }
-    {
-        match entry {
-            EntryOperation::SetEntry {
-                vector,
-                index,
-                value,
-            } => self.set_entry(i, *vector, index, value),
-            EntryOperation::ReduceEntry {
-                vector,
-                index,
-                reduction,
-                value,
-            } => self.reduce_entry(i, *vector, index, *reduction, value),
         }
     }
 

@@ -1,32 +1,33 @@
-//! Statements on variables.
-ghost use Rattle.std.specs.Prelude.{◌≡◌, ℕ, IfOk, OnErr};
-ghost use Rattle.typed_tree.specs.BlockTree.{DeclareBool, DeclareInt, ReduceInt, SetBool, SetInt};
+//! Values of expressions, and what is done with them.
+ghost use Rattle.std.specs.Prelude.{◌≡◌, IfOk, OnErr, OnOk};
 ghost use Rattle.typed_tree.specs.ProgramTree.{ProgramTree};
 ghost use Rattle.algorithm_meaning.specs.State.{GraphValue};
 ghost use Rattle.plans.specs.Instruction.{Do, OperationTree};
-ghost use Rattle.plans.specs.Operation.{HasCondition, HasInteger, IsFor};
+ghost use Rattle.plans.specs.Operation.{bool_statement, int_statement, HasCondition, HasInteger, IsFor};
+ghost use Rattle.run_state.specs.State.{with_state};
 ghost use Rattle.runner.specs.inside.Done.{HasDone, IsAsBefore, IsKept};
 ghost use Rattle.runner.specs.inside.Position.{IsOn};
+ghost use Rattle.runner.specs.inside.Uses.{state_with_bool, state_with_int};
 
 use crate::flow::Flow;
 use crate::memory::Memory;
-use apply_options::Reduction;
 use kernels::ExpressionKernel;
-use plans::Instruction;
+use plans::{BoolUse, Instruction, IntUse};
+use run_state::State;
 use std::alloc::AllocError;
-use typed_tree::VarRef;
 
 impl Memory {
-    /// A new variable of type `int`.
-    pub(crate) fn declare_int(
+    /// Takes the value of an expression of type `int`, and does with it what is said.
+    pub(crate) fn use_int(
         &mut self,
         instruction: &Instruction,
         value: &ExpressionKernel,
+        used: IntUse,
     ) -> Result<Flow, AllocError>
         requires kept { IsKept instruction.now.keep self.old.state.state }
         requires visible { IsFor instruction.now.keep value.now }
-        ensures done { IfOk result (λ flow. (p : ProgramTree) (g : GraphValue) (t : OperationTree) (name : ℕ) → IsOn g self.old
-            → HasInteger instruction.now.keep value.now (λ e. Do (DeclareInt name e)) t → HasDone instruction.now flow self.old self.new p g t) }
+        ensures done { IfOk result (λ flow. (p : ProgramTree) (g : GraphValue) (t : OperationTree) → IsOn g self.old
+            → HasInteger instruction.now.keep value.now (λ e. Do (int_statement used e)) t → HasDone instruction.now flow self.old self.new p g t) }
         ensures vectors { self.new.state.state.vectors ≡ self.old.state.state.vectors }
         ensures vertices { self.new.state.vertices ≡ self.old.state.vertices }
         ensures groups { self.new.state.groups ≡ self.old.state.groups }
@@ -37,23 +38,24 @@ impl Memory {
             .eval_int(value, instruction.keep, &mut self.registers)?
         {
             Some(n) => {
-                self.state.declare_int(n)?;
+                put_int(&mut self.state, used, n)?;
                 Ok(Flow::Next)
             }
             None => Ok(Flow::Fault),
         }
     }
 
-    /// A new variable of type `bool`.
-    pub(crate) fn declare_bool(
+    /// Takes the value of an expression of type `bool`, and does with it what is said.
+    pub(crate) fn use_bool(
         &mut self,
         instruction: &Instruction,
         value: &ExpressionKernel,
+        used: BoolUse,
     ) -> Result<Flow, AllocError>
         requires kept { IsKept instruction.now.keep self.old.state.state }
         requires visible { IsFor instruction.now.keep value.now }
-        ensures done { IfOk result (λ flow. (p : ProgramTree) (g : GraphValue) (t : OperationTree) (name : ℕ) → IsOn g self.old
-            → HasCondition instruction.now.keep value.now (λ c. Do (DeclareBool name c)) t → HasDone instruction.now flow self.old self.new p g t) }
+        ensures done { IfOk result (λ flow. (p : ProgramTree) (g : GraphValue) (t : OperationTree) → IsOn g self.old
+            → HasCondition instruction.now.keep value.now (λ c. Do (bool_statement used c)) t → HasDone instruction.now flow self.old self.new p g t) }
         ensures vectors { self.new.state.state.vectors ≡ self.old.state.state.vectors }
         ensures vertices { self.new.state.vertices ≡ self.old.state.vertices }
         ensures groups { self.new.state.groups ≡ self.old.state.groups }
@@ -64,95 +66,44 @@ impl Memory {
             .eval_bool(value, instruction.keep, &mut self.registers)?
         {
             Some(b) => {
-                self.state.declare_bool(b)?;
+                put_bool(&mut self.state, used, b)?;
                 Ok(Flow::Next)
             }
             None => Ok(Flow::Fault),
         }
     }
+}
 
-    /// A variable of type `int` gets a value.
-    pub(crate) fn set_int(
-        &mut self,
-        instruction: &Instruction,
-        slot: VarRef,
-        value: &ExpressionKernel,
-    ) -> Result<Flow, AllocError>
-        requires kept { IsKept instruction.now.keep self.old.state.state }
-        requires visible { IsFor instruction.now.keep value.now }
-        ensures done { IfOk result (λ flow. (p : ProgramTree) (g : GraphValue) (t : OperationTree) → IsOn g self.old
-            → HasInteger instruction.now.keep value.now (λ e. Do (SetInt slot e)) t → HasDone instruction.now flow self.old self.new p g t) }
-        ensures vectors { self.new.state.state.vectors ≡ self.old.state.state.vectors }
-        ensures vertices { self.new.state.vertices ≡ self.old.state.vertices }
-        ensures groups { self.new.state.groups ≡ self.old.state.groups }
-        ensures err { OnErr result (IsAsBefore self.old self.new) }
-    {
-        match self
-            .state
-            .eval_int(value, instruction.keep, &mut self.registers)?
-        {
-            Some(n) => {
-                self.state.set_int(slot.index, n);
-                Ok(Flow::Next)
-            }
-            None => Ok(Flow::Fault),
+/// Does with a number what is said. The only error is out of memory, and then nothing is changed.
+fn put_int(state: &mut State, used: IntUse, n: i64) -> Result<(), AllocError>
+    ensures state { OnOk result (state.new ≡ with_state state.old (state_with_int used n state.old.state)) }
+    ensures err { OnErr result (state.new ≡ state.old) }
+{
+    match used {
+        IntUse::Declare { name: _ } => state.declare_int(n),
+        IntUse::Set { slot } => {
+            state.set_int(slot.index, n);
+            Ok(())
         }
+        IntUse::Reduce { slot, reduction } => {
+            state.reduce_int(slot.index, reduction, n);
+            Ok(())
+        }
+        IntUse::Print => state.print_int(n),
     }
+}
 
-    /// A variable of type `bool` gets a value.
-    pub(crate) fn set_bool(
-        &mut self,
-        instruction: &Instruction,
-        slot: VarRef,
-        value: &ExpressionKernel,
-    ) -> Result<Flow, AllocError>
-        requires kept { IsKept instruction.now.keep self.old.state.state }
-        requires visible { IsFor instruction.now.keep value.now }
-        ensures done { IfOk result (λ flow. (p : ProgramTree) (g : GraphValue) (t : OperationTree) → IsOn g self.old
-            → HasCondition instruction.now.keep value.now (λ c. Do (SetBool slot c)) t → HasDone instruction.now flow self.old self.new p g t) }
-        ensures vectors { self.new.state.state.vectors ≡ self.old.state.state.vectors }
-        ensures vertices { self.new.state.vertices ≡ self.old.state.vertices }
-        ensures groups { self.new.state.groups ≡ self.old.state.groups }
-        ensures err { OnErr result (IsAsBefore self.old self.new) }
-    {
-        match self
-            .state
-            .eval_bool(value, instruction.keep, &mut self.registers)?
-        {
-            Some(b) => {
-                self.state.set_bool(slot.index, b);
-                Ok(Flow::Next)
-            }
-            None => Ok(Flow::Fault),
+/// Does with a truth value what is said. The only error is out of memory, and then nothing is changed.
+fn put_bool(state: &mut State, used: BoolUse, b: bool) -> Result<(), AllocError>
+    ensures state { OnOk result (state.new ≡ with_state state.old (state_with_bool used b state.old.state)) }
+    ensures err { OnErr result (state.new ≡ state.old) }
+{
+    match used {
+        BoolUse::Declare { name: _ } => state.declare_bool(b),
+        BoolUse::Set { slot } => {
+            state.set_bool(slot.index, b);
+            Ok(())
         }
-    }
-
-    /// A variable of type `int` is reduced with a value.
-    pub(crate) fn reduce_int(
-        &mut self,
-        instruction: &Instruction,
-        slot: VarRef,
-        reduction: Reduction,
-        value: &ExpressionKernel,
-    ) -> Result<Flow, AllocError>
-        requires kept { IsKept instruction.now.keep self.old.state.state }
-        requires visible { IsFor instruction.now.keep value.now }
-        ensures done { IfOk result (λ flow. (p : ProgramTree) (g : GraphValue) (t : OperationTree) → IsOn g self.old
-            → HasInteger instruction.now.keep value.now (λ e. Do (ReduceInt slot reduction e)) t → HasDone instruction.now flow self.old self.new p g t) }
-        ensures vectors { self.new.state.state.vectors ≡ self.old.state.state.vectors }
-        ensures vertices { self.new.state.vertices ≡ self.old.state.vertices }
-        ensures groups { self.new.state.groups ≡ self.old.state.groups }
-        ensures err { OnErr result (IsAsBefore self.old self.new) }
-    {
-        match self
-            .state
-            .eval_int(value, instruction.keep, &mut self.registers)?
-        {
-            Some(n) => {
-                self.state.reduce_int(slot.index, reduction, n);
-                Ok(Flow::Next)
-            }
-            None => Ok(Flow::Fault),
-        }
+        BoolUse::Print => state.print_bool(b),
     }
 }

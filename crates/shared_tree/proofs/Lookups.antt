@@ -1,6 +1,6 @@
 -- What lists of entries give at keys.
-use Rattle.std.proofs.Common.{◌≡◌, ◌≢◌, ℕ, ◌+◌, ◌^◌, inl, inr, Option, Some, None, List, [], ◌∷◌, ◌++◌, refl, sym, ◌∙◌, arith}
-use Rattle.std.proofs.lemmas.Bool.{ne_eqb, eq-eqb, cases_order, cases_eq}
+use Rattle.std.proofs.Common.{◌≡◌, ◌≢◌, ℕ, ◌+◌, ◌^◌, Option, Some, None, List, [], ◌∷◌, ◌++◌, refl, arith}
+use Rattle.std.proofs.lemmas.Bool.{ne_eqb, eq-eqb}
 use Rattle.ascending_lists.specs.Maps.{Rises, lookup}
 use Rattle.shared_tree.specs.Changes.{entry_at_key, IsSplit}
 use Rattle.ascending_lists.proofs.MapOrder.{rises_room, lookup_below}

@@ -1,5 +1,5 @@
 -- Maps split at a key, below and above an entry.
-use Rattle.std.proofs.Common.{◌≡◌, ℕ, ◌+◌, ◌^◌, ◌<◌, Option, Some, None, List, ◌∷◌, ◌++◌, refl, sym, ap, ◌∙◌, append_assoc, arith}
+use Rattle.std.proofs.Common.{◌≡◌, ℕ, ◌+◌, ◌^◌, ◌<◌, Option, Some, None, List, ◌∷◌, ◌++◌, sym, ap, ◌∙◌, append_assoc, arith}
 use Rattle.ascending_lists.specs.Maps.{Rises, IsMap}
 use Rattle.shared_tree.specs.Changes.{entry_at_key, IsSplit}
 use Rattle.ascending_lists.proofs.MapOrder.{rises_from, rises_left, rises_right, rises_joined, rises_append, rises_front, rises_back, rises_between}

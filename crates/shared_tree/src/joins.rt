@@ -7,7 +7,7 @@ ghost use Rattle.shared_tree.specs.inside.Opened.{IsPopped};
 ghost use Rattle.shared_tree.specs.declared.error.TreeError.TheVariants.{NoMemory};
 
 use crate::error::TreeError;
-use crate::nodes::{Opened, Slot, fork, open};
+use crate::nodes::{Opened, Slot, fork, open, open_root};
 use crate::share::Share;
 use crate::tree::Tree;
 use std::alloc::{AllocError, Global};
@@ -109,15 +109,11 @@ pub(crate) fn joined<V: Share>(
     ensures { IfOk result (λ t. IsJoin left key slot.node.value.value right t) }
 {
     if left.depth() > right.depth() + 1 {
-        let Some(top) = open(alloc, left)? else {
-            unreachable!()
-        };
+        let top = open_root(alloc, left)?;
         let inner = joined(alloc, top.right, key, slot, right)?;
         balance(alloc, top.left, top.key, top.slot, inner)
     } else if right.depth() > left.depth() + 1 {
-        let Some(top) = open(alloc, right)? else {
-            unreachable!()
-        };
+        let top = open_root(alloc, right)?;
         let inner = joined(alloc, left, key, slot, top.left)?;
         balance(alloc, inner, top.key, top.slot, top.right)
     } else {
@@ -159,16 +155,12 @@ fn rotate_right<V: Share>(
     requires deeper { left.depth ≡ right.depth + 2 }
     ensures { IfOk result (λ t. IsJoin left key slot.node.value.value right t) }
 {
-    let Some(top) = open(alloc, left)? else {
-        unreachable!()
-    };
+    let top = open_root(alloc, left)?;
     if top.left.depth() >= top.right.depth() {
         let lower = fork(alloc, top.right, key, slot, right)?;
         return fork(alloc, top.left, top.key, top.slot, lower);
     }
-    let Some(middle) = open(alloc, top.right)? else {
-        unreachable!()
-    };
+    let middle = open_root(alloc, top.right)?;
     let before = fork(alloc, top.left, top.key, top.slot, middle.left)?;
     let after = fork(alloc, middle.right, key, slot, right)?;
     fork(alloc, before, middle.key, middle.slot, after)
@@ -186,16 +178,12 @@ fn rotate_left<V: Share>(
     requires deeper { right.depth ≡ left.depth + 2 }
     ensures { IfOk result (λ t. IsJoin left key slot.node.value.value right t) }
 {
-    let Some(top) = open(alloc, right)? else {
-        unreachable!()
-    };
+    let top = open_root(alloc, right)?;
     if top.right.depth() >= top.left.depth() {
         let lower = fork(alloc, left, key, slot, top.left)?;
         return fork(alloc, lower, top.key, top.slot, top.right);
     }
-    let Some(middle) = open(alloc, top.left)? else {
-        unreachable!()
-    };
+    let middle = open_root(alloc, top.left)?;
     let before = fork(alloc, left, key, slot, middle.left)?;
     let after = fork(alloc, middle.right, top.key, top.slot, top.right)?;
     fork(alloc, before, middle.key, middle.slot, after)

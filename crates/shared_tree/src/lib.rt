@@ -2,11 +2,12 @@
 //!
 //! A contract sees a [`Tree`] as the list of its entries, which are pairs of a key and a value in
 //! ascending order of keys, and as its depth in nodes. Each call is that of a finite map, said on
-//! that list: `find` is the look-up, `split` gives what is below a key, the value there and what is
-//! above, `join` and `join2` put trees together,
-//! and `change_all` makes changes of the values at many keys in one pass: what a [`ValueChange`] is
-//! makes the new value of the old one, comes with a value where there was none, or leaves none. The
-//! sides of each node differ by at most one in depth, so that `2^depth <= (len + 1)^2`.
+//! that list: `find` is the look-up, `split` gives what is below a key, the value there and what
+//! is above, `join` and `join2` put trees together, `from_sorted` and `from_ascending` make trees
+//! of entries in order, and `change_all` makes changes of the values at many keys in one pass:
+//! what a [`ValueChange`] is makes the new value of the old one, comes with a value where there
+//! was none, or leaves none. The sides of each node differ by at most one in depth, so that
+//! `2^depth <= (len + 1)^2`.
 //!
 //! No call changes a tree that another owner sees. A call takes a tree by reference, or owns it; a
 //! node on its way that has another owner is copied, with its sides shared, and one that has none

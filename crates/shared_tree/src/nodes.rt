@@ -1,6 +1,6 @@
 //! Nodes taken apart and put together, in their own blocks where they have one owner.
 
-ghost use Rattle.std.specs.Prelude.{◌≡◌, ◌∷◌, ◌++◌, IfOk};
+ghost use Rattle.std.specs.Prelude.{◌≡◌, ◌<◌, ◌∷◌, ◌++◌, IfOk};
 ghost use Rattle.ascending_lists.specs.Maps.{IsMap};
 ghost use Rattle.shared_tree.specs.Balanced.{IsFork, DifferByAtMostOne};
 ghost use Rattle.shared_tree.specs.inside.Opened.{IsOpened};
@@ -50,6 +50,18 @@ pub(crate) fn open<V: Share>(alloc: Global, tree: Tree<V>) -> Result<Option<Open
     match tree.into_link() {
         Link::Empty => Ok(None),
         Link::Fork { key, node, .. } => Ok(Some(take_apart(alloc, key, node)?)),
+    }
+}
+
+/// The root of a tree that is not empty, apart from its sides.
+#[inline]
+pub(crate) fn open_root<V: Share>(alloc: Global, tree: Tree<V>) -> Result<Opened<V>, AllocError>
+    requires { 0 < tree.depth }
+    ensures { IfOk result (λ o. IsFork tree o.left o.key o.slot.node.value.value o.right) }
+{
+    match open(alloc, tree)? {
+        Some(root) => Ok(root),
+        None => unreachable!(),
     }
 }
 

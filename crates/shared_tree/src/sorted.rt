@@ -20,9 +20,20 @@ impl<V: Drop> Tree<V> {
         if !ascends(&entries) {
             return Err(TreeError::NotAscending);
         }
+        Ok(Tree::from_ascending(alloc, entries)?)
+    }
+
+    /// The tree of these entries, as flat as can be. The caller sees to it that each key is above
+    /// the one before it. It takes time in proportion to their number.
+    ///
+    /// The only error is out of memory.
+    pub fn from_ascending(alloc: Global, entries: Vec<(u32, V)>) -> Result<Tree<V>, AllocError>
+        requires { IsMap entries.items }
+        ensures { IfOk result (λ t. t.entries ≡ entries.items) }
+    {
         let mut entries = entries;
         let count = entries.len();
-        Ok(build(alloc, &mut entries, count)?)
+        build(alloc, &mut entries, count)
     }
 }
 

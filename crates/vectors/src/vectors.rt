@@ -93,10 +93,10 @@ impl Vectors {
     pub fn entries(&self, vector: usize) -> usize
         ensures { result ≡ length (slice_index_or self.now.vectors vector []) }
     {
-        match self.locations.get(vector) {
-            Some(location) => location.vertices,
-            None => 0,
+        if vector >= self.locations.len() {
+            return 0;
         }
+        self.locations[vector].vertices
     }
 
     /// Puts all entries.

@@ -13,7 +13,6 @@ use Rattle.plans.specs.Instruction.{OperationTree}
 use Rattle.plans.specs.declared.instruction.Instruction.{Instruction}
 use Rattle.plans.specs.declared.operation.PlanOperation.TheVariants as op
 use Rattle.plans.specs.declared.operation.ValueOperation.TheVariants as value_op
-use Rattle.plans.specs.declared.operation.EntryOperation.TheVariants as entry_op
 use Rattle.plans.specs.declared.operation.ControlOperation.TheVariants as control_op
 use Rattle.runner.specs.declared.flow.Flow.{Flow}
 use Rattle.runner.specs.declared.memory.Memory.{Memory}
@@ -33,16 +32,10 @@ after_flow (flow.Ended end) number shown index loops s = Ended (forget_beyond sh
 
 -- its kernels are made for what is visible
 abbrev pub IsReady : (keep shown : Depth) → PlanOperation → Type 0
-IsReady keep shown (op.Value (value_op.DeclareInt name k)) = IsFor keep k
-IsReady keep shown (op.Value (value_op.DeclareBool name k)) = IsFor keep k
-IsReady keep shown (op.Value (value_op.SetInt slot k)) = IsFor keep k
-IsReady keep shown (op.Value (value_op.SetBool slot k)) = IsFor keep k
-IsReady keep shown (op.Value (value_op.ReduceInt slot reduction k)) = IsFor keep k
+IsReady keep shown (op.Value (value_op.Int k used)) = IsFor keep k
+IsReady keep shown (op.Value (value_op.Bool k used)) = IsFor keep k
 IsReady keep shown (op.Value (value_op.AddVertex slot k)) = IsFor keep k
-IsReady keep shown (op.Value (value_op.PrintInt k)) = IsFor keep k
-IsReady keep shown (op.Value (value_op.PrintBool k)) = IsFor keep k
-IsReady keep shown (op.Entry (entry_op.SetEntry vector index k)) = IsFor keep index × IsFor keep k
-IsReady keep shown (op.Entry (entry_op.ReduceEntry vector index reduction k)) = IsFor keep index × IsFor keep k
+IsReady keep shown (op.Entry entry) = IsFor keep entry.index × IsFor keep entry.value
 IsReady keep shown (op.Set set) = Unit {0}
 IsReady keep shown (op.Apply apply) = Unit {0}
 IsReady keep shown (op.Control (control_op.Unless k to)) = IsFor keep k

@@ -20,8 +20,8 @@ write_chunks-requires-clause-ascending c =
 pub write_chunks-requires-clause-cut : goal.write_chunks-requires-clause-cut
 write_chunks-requires-clause-cut c = rw c.split_at_head-front.ensures.rest (before_from_head c.args.chunk_size c.args.entries.now)
 
-pub tree_of-requires : goal.tree_of-requires
-tree_of-requires c =
+pub from_ascending-requires : goal.from_ascending-requires
+from_ascending-requires c =
     let b = c.args.chunk_size in
     let es = c.args.entries.now in
     let items : c.in_ok-chunks.chunks.items ≡ chunks_of b es =
