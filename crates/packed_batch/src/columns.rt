@@ -13,21 +13,21 @@ use weighted_edges::UNIT_WEIGHT;
 /// Entries in columns: packed without their weights, and their weights, or no weights if all are 1.
 /// Contracts see the list of the entries.
 #[derive(Debug)]
-pub(crate) struct Columns {
+pub(crate) struct EntryColumns {
     packed: Vec<PackedEntry>,
     weights: Vec<i64>,
 }
 
-impl Drop for Columns {
+impl Drop for EntryColumns {
     fn drop(self) {
-        let Columns {
+        let EntryColumns {
             packed: _,
             weights: _,
         } = self;
     }
 }
 
-impl Model for Columns {
+impl Model for EntryColumns {
     ghost use Rattle.std.specs.Prelude.{List};
     ghost use Rattle.tree_batch.specs.declared.batch.Entry.{Entry};
     ghost use Rattle.packed_batch.specs.inside.Packed.{entries_in};
@@ -37,10 +37,10 @@ impl Model for Columns {
     ghost view = { λ c. entries_in c.packed.items c.weights.items };
 }
 
-impl Columns {
+impl EntryColumns {
     /// The entries of a batch in columns, or `None` if a number in them is 2^31 or more. The only error is
     /// out of memory.
-    pub(crate) fn of(alloc: Global, batch: &Batch) -> Result<Option<Columns>, AllocError>
+    pub(crate) fn of(alloc: Global, batch: &Batch) -> Result<Option<EntryColumns>, AllocError>
         ensures { IfOk result (λ o. IfSome o (λ c. c ≡ batch.now)) }
     {
         let Some(packed) = pack(alloc, batch.entries())? else {
@@ -51,7 +51,7 @@ impl Columns {
         } else {
             Vec::new(alloc)
         };
-        Ok(Some(Columns { packed, weights }))
+        Ok(Some(EntryColumns { packed, weights }))
     }
 
     /// How many entries there are. It takes constant time.

@@ -4,7 +4,7 @@ ghost use Rattle.std.specs.Prelude.{◌≡◌, ◌↔◌, ◌<◌, [], IfErr, If
 ghost use Rattle.tree_batch.specs.declared.batch.Entry.{Entry};
 ghost use Rattle.tree_batch.specs.declared.error.GraphError.TheVariants.{NoMemory};
 
-use crate::columns::Columns;
+use crate::columns::EntryColumns;
 use crate::iter::PackedIter;
 use std::alloc::{AllocError, Global};
 use std::marker::Model;
@@ -17,14 +17,14 @@ const MANY: usize = 16;
 /// A batch of fewer than 16 entries is kept as it is, and so is a batch that names a vertex from 2^31 on.
 #[derive(Debug)]
 pub struct PackedBatch {
-    form: Form,
+    form: BatchForm,
 }
 
 /// How the entries are kept.
 #[derive(Debug, Drop)]
-pub(crate) enum Form {
+pub(crate) enum BatchForm {
     Listed(Batch),
-    Packed(Box<Columns>),
+    Packed(Box<EntryColumns>),
 }
 
 // By hand: a derived drop would be written out, and proved again, in each function that lets a packed batch go.
@@ -37,7 +37,7 @@ impl Drop for PackedBatch {
 impl Model for PackedBatch {
     ghost use Rattle.std.specs.Prelude.{List};
     ghost use Rattle.tree_batch.specs.declared.batch.Entry.{Entry};
-    ghost use Rattle.packed_batch.specs.inside.Form.{entries_of};
+    ghost use Rattle.packed_batch.specs.inside.BatchForm.{entries_of};
 
     ghost Value = { List Entry };
 
@@ -58,11 +58,11 @@ impl PackedBatch {
         if batch.entries().len() < MANY {
             return Ok(PackedBatch::listed(batch));
         }
-        match Columns::of(alloc, &batch)? {
+        match EntryColumns::of(alloc, &batch)? {
             Some(columns) => {
                 let columns = Box::new(alloc, columns)?;
                 Ok(PackedBatch {
-                    form: Form::Packed(columns),
+                    form: BatchForm::Packed(columns),
                 })
             }
             None => Ok(PackedBatch::listed(batch)),
@@ -74,7 +74,7 @@ impl PackedBatch {
         ensures { result ≡ batch }
     {
         PackedBatch {
-            form: Form::Listed(batch),
+            form: BatchForm::Listed(batch),
         }
     }
 
@@ -84,8 +84,8 @@ impl PackedBatch {
         ensures { result ≡ length self.now }
     {
         match &self.form {
-            Form::Listed(batch) => batch.entries().len(),
-            Form::Packed(columns) => columns.len(),
+            BatchForm::Listed(batch) => batch.entries().len(),
+            BatchForm::Packed(columns) => columns.len(),
         }
     }
 
@@ -103,8 +103,8 @@ impl PackedBatch {
         ensures { (d : Entry) → result ≡ get_or self.now index d }
     {
         match &self.form {
-            Form::Listed(batch) => batch.entries()[index],
-            Form::Packed(columns) => columns.entry(index),
+            BatchForm::Listed(batch) => batch.entries()[index],
+            BatchForm::Packed(columns) => columns.entry(index),
         }
     }
 
@@ -132,7 +132,7 @@ impl PackedBatch {
         ensures ok { IfOk result (λ batch. batch ≡ self.now) }
         ensures err { IfErr result (λ e. e ≡ NoMemory) }
     {
-        if let Form::Listed(batch) = &self.form {
+        if let BatchForm::Listed(batch) = &self.form {
             return Ok(batch.clone()?);
         }
         let mut batch = Batch::new(alloc);
