@@ -18,6 +18,8 @@ mod forked_sets;
 #[cfg(test)]
 mod graph_blocks;
 #[cfg(test)]
+mod packed_batches;
+#[cfg(test)]
 mod refused_growths;
 #[cfg(test)]
 mod script_devices;

@@ -131,11 +131,14 @@ fn check_newest(versions: &Versions, (number, vertices, edges): Version, count: 
     check(graph.edges().eq(edges.iter().copied()), "the edges")
 }
 
+// The entries four times in a row, so that the second batch is long enough to be packed in the history.
 fn batch_of(alloc: Global, entries: &[Entry]) -> Result<Batch, AllocError> {
     let mut batch = Batch::new(alloc);
-    for entry in entries {
-        if batch.push(*entry).is_err() {
-            return Err(AllocError);
+    for _ in 0..4u32 {
+        for entry in entries {
+            if batch.push(*entry).is_err() {
+                return Err(AllocError);
+            }
         }
     }
     Ok(batch)

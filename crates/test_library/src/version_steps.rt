@@ -1,6 +1,7 @@
 //! Steps of versions whose history has little room, which no script has.
 use Asked::{Acquire, Commit, Release, Trim};
 use Reply::{Refused, Released, Ticket, Trimmed, Version};
+use packed_batch::PackedBatch;
 use std::alloc::Global;
 use std::thread::Threads;
 use test_helpers::{Checked, check};
@@ -19,7 +20,7 @@ enum Asked {
 impl Asked {
     fn step(self, alloc: Global) -> Step {
         match self {
-            Commit => Step::Commit(Batch::new(alloc)),
+            Commit => Step::Commit(PackedBatch::listed(Batch::new(alloc))),
             Acquire(which) => Step::Acquire(which),
             Release(number) => Step::Release(number),
             Trim => Step::Trim,

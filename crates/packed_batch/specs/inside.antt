@@ -1,0 +1,3 @@
+-- What the code is made of: no public contract cites these definitions.
+pub mod Packed
+pub mod BatchForm
