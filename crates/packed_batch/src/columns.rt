@@ -13,21 +13,21 @@ use weighted_edges::UNIT_WEIGHT;
 /// Entries in columns: packed without their weights, and their weights, or no weights if all are 1.
 /// Contracts see the list of the entries.
 #[derive(Debug)]
-pub(crate) struct EntryColumns {
+pub(crate) struct BatchColumns {
     packed: Vec<PackedEntry>,
     weights: Vec<i64>,
 }
 
-impl Drop for EntryColumns {
+impl Drop for BatchColumns {
     fn drop(self) {
-        let EntryColumns {
+        let BatchColumns {
             packed: _,
             weights: _,
         } = self;
     }
 }
 
-impl Model for EntryColumns {
+impl Model for BatchColumns {
     ghost use Rattle.std.specs.Prelude.{List};
     ghost use Rattle.tree_batch.specs.declared.batch.Entry.{Entry};
     ghost use Rattle.packed_batch.specs.inside.Packed.{entries_in};
@@ -37,10 +37,10 @@ impl Model for EntryColumns {
     ghost view = { λ c. entries_in c.packed.items c.weights.items };
 }
 
-impl EntryColumns {
+impl BatchColumns {
     /// The entries of a batch in columns, or `None` if a number in them is 2^31 or more. The only error is
     /// out of memory.
-    pub(crate) fn of(alloc: Global, batch: &Batch) -> Result<Option<EntryColumns>, AllocError>
+    pub(crate) fn of(alloc: Global, batch: &Batch) -> Result<Option<BatchColumns>, AllocError>
         ensures { IfOk result (λ o. IfSome o (λ c. c ≡ batch.now)) }
     {
         let Some(packed) = pack(alloc, batch.entries())? else {
@@ -51,7 +51,7 @@ impl EntryColumns {
         } else {
             Vec::new(alloc)
         };
-        Ok(Some(EntryColumns { packed, weights }))
+        Ok(Some(BatchColumns { packed, weights }))
     }
 
     /// How many entries there are. It takes constant time.

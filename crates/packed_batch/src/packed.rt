@@ -4,7 +4,7 @@ ghost use Rattle.std.specs.Prelude.{◌≡◌, ◌↔◌, ◌<◌, [], IfErr, If
 ghost use Rattle.tree_batch.specs.declared.batch.Entry.{Entry};
 ghost use Rattle.tree_batch.specs.declared.error.GraphError.TheVariants.{NoMemory};
 
-use crate::columns::EntryColumns;
+use crate::columns::BatchColumns;
 use crate::iter::PackedIter;
 use std::alloc::{AllocError, Global};
 use std::marker::Model;
@@ -24,7 +24,7 @@ pub struct PackedBatch {
 #[derive(Debug, Drop)]
 pub(crate) enum BatchForm {
     Listed(Batch),
-    Packed(Box<EntryColumns>),
+    Packed(Box<BatchColumns>),
 }
 
 // By hand: a derived drop would be written out, and proved again, in each function that lets a packed batch go.
@@ -58,7 +58,7 @@ impl PackedBatch {
         if batch.entries().len() < MANY {
             return Ok(PackedBatch::listed(batch));
         }
-        match EntryColumns::of(alloc, &batch)? {
+        match BatchColumns::of(alloc, &batch)? {
             Some(columns) => {
                 let columns = Box::new(alloc, columns)?;
                 Ok(PackedBatch {

@@ -4,7 +4,7 @@ use Rattle.std.proofs.lemmas.Int.{to_z-of_z}
 use Rattle.packed_batch.specs.declared.packed_entry.PackedEntry.{PackedEntry}
 use Rattle.packed_batch.specs.inside.Packed.{entry_of}
 use Rattle.packed_batch.proofs.Packing.{entries_length, list_at}
-use Rattle.packed_batch.proofs.columns.EntryColumns.entry.Goals as goal
+use Rattle.packed_batch.proofs.columns.BatchColumns.entry.Goals as goal
 
 pub prove-unreachable-requires : goal.prove-unreachable-requires
 prove-unreachable-requires c =

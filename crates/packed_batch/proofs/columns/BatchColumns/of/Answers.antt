@@ -4,8 +4,8 @@ use Rattle.tree_batch.specs.declared.batch.Entry.{Entry}
 use Rattle.packed_batch.specs.declared.packed_entry.PackedEntry.{PackedEntry}
 use Rattle.packed_batch.specs.inside.Packed.{ArePacked, entries_in, weight_of}
 use Rattle.packed_batch.proofs.Packing.{with_weights, without_weights}
-use Rattle.packed_batch.proofs.columns.EntryColumns.of.Goals.{then-is_weighted+in_ok-weights, else-is_weighted}
-use Rattle.packed_batch.proofs.columns.EntryColumns.of.Goals as goal
+use Rattle.packed_batch.proofs.columns.BatchColumns.of.Goals.{then-is_weighted+in_ok-weights, else-is_weighted}
+use Rattle.packed_batch.proofs.columns.BatchColumns.of.Goals as goal
 
 pub returns : goal.returns
 returns c =
