@@ -1,21 +1,21 @@
 //! The entries of a batch in columns.
 
-ghost use Rattle.std.specs.Prelude.{◌≡◌, ◌<◌, IfOk, IfSome, get_or, length, map, pos};
+ghost use Rattle.std.specs.Prelude.{◌≡◌, ◌<◌, IfOk, IfSome, get_or, length};
 ghost use Rattle.tree_batch.specs.declared.batch.Entry.{Entry};
-ghost use Rattle.packed_batch.specs.inside.Packed.{ArePacked, entries_in, weight_of};
+ghost use Rattle.packed_batch.specs.inside.Packed.{ArePacked};
 
-use crate::packed_entry::{PackedEntry, weight_of};
+use crate::packed_entry::PackedEntry;
+use crate::weights::Weights;
 use std::alloc::{AllocError, Global};
 use std::marker::Model;
 use tree_batch::{Batch, Entry};
-use weighted_edges::UNIT_WEIGHT;
 
 /// Entries in columns: packed without their weights, and their weights, or no weights if all are 1.
 /// Contracts see the list of the entries.
 #[derive(Debug)]
 pub(crate) struct BatchColumns {
     packed: Vec<PackedEntry>,
-    weights: Vec<i64>,
+    weights: Weights,
 }
 
 impl Drop for BatchColumns {
@@ -31,10 +31,11 @@ impl Model for BatchColumns {
     ghost use Rattle.std.specs.Prelude.{List};
     ghost use Rattle.tree_batch.specs.declared.batch.Entry.{Entry};
     ghost use Rattle.packed_batch.specs.inside.Packed.{entries_in};
+    ghost use Rattle.packed_batch.specs.inside.Weights.{weights_in};
 
     ghost Value = { List Entry };
 
-    ghost view = { λ c. entries_in c.packed.items c.weights.items };
+    ghost view = { λ c. entries_in c.packed.items (weights_in c.weights) };
 }
 
 impl BatchColumns {
@@ -47,9 +48,9 @@ impl BatchColumns {
             return Ok(None);
         };
         let weights = if batch.is_weighted() {
-            weights_of(alloc, batch.entries())?
+            Weights::of(alloc, batch.entries())?
         } else {
-            Vec::new(alloc)
+            Weights::none(alloc)
         };
         Ok(Some(BatchColumns { packed, weights }))
     }
@@ -70,18 +71,7 @@ impl BatchColumns {
     {
         prove!(index < self.packed.len());
         let packed = self.packed[index];
-        packed.entry(weight_at(&self.weights, index))
-    }
-}
-
-/// The weight at an index, or 1 where the weights are over.
-#[inline]
-fn weight_at(weights: &[i64], index: usize) -> i64
-    ensures { result ≡ get_or weights.now index (pos 1) }
-{
-    match weights.get(index) {
-        Some(weight) => *weight,
-        None => UNIT_WEIGHT,
+        packed.entry(self.weights.at(index))
     }
 }
 
@@ -97,15 +87,4 @@ fn pack(alloc: Global, entries: &[Entry]) -> Result<Option<Vec<PackedEntry>>, Al
         }
     }
     Ok(Some(packed))
-}
-
-/// The weights with which the entries add their edges, and 1 for entries that add none.
-fn weights_of(alloc: Global, entries: &[Entry]) -> Result<Vec<i64>, AllocError>
-    ensures { IfOk result (λ v. v.items ≡ map weight_of entries.now) }
-{
-    let mut weights = Vec::with_capacity(alloc, entries.len())?;
-    for entry in entries {
-        weights.push_reserved(weight_of(*entry));
-    }
-    Ok(weights)
 }

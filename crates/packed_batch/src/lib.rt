@@ -2,7 +2,7 @@
 //!
 //! A contract sees a [`PackedBatch`] like the [`Batch`](tree_batch::Batch) of which it was made, as the list of its
 //! entries in their order. The ends and the kind of an entry take 8 bytes. If some edge is added with a weight other
-//! than 1, a second column has the weights, 8 bytes each. A batch of few entries is kept as it is, so that a small
+//! than 1, a second column has the weights, in 1, 4 or 8 bytes each, as the widest needs. A batch of few entries is kept as it is, so that a small
 //! commit needs no memory beside that of its batch.
 //!
 //! A packed batch lends its entries by an iterator, and makes a batch of them for those who need a slice.
@@ -13,6 +13,7 @@ mod columns;
 mod iter;
 mod packed;
 mod packed_entry;
+mod weights;
 
 pub use iter::PackedIter;
 pub use packed::PackedBatch;

@@ -13,7 +13,8 @@ use tree_batch::{Batch, Entry, GraphError};
 /// From how many entries on a batch is packed. Packing takes memory twice.
 const MANY: usize = 16;
 
-/// The entries of a batch, packed: in 8 bytes each, or in 16 if some edge is added with a weight other than 1.
+/// The entries of a batch, packed: in 8 bytes each, and in 1, 4 or 8 more if some edge is added with a weight other
+/// than 1, as the widest weight needs.
 /// A batch of fewer than 16 entries is kept as it is, and so is a batch that names a vertex from 2^31 on.
 #[derive(Debug)]
 pub struct PackedBatch {

@@ -1,7 +1,7 @@
 use Rattle.std.proofs.Common.{◌≡◌, ◌≤◌, length, map, take, vec_len}
 use Rattle.std.specs.Vec.{vec_capacity}
 use Rattle.packed_batch.specs.inside.Packed.{weight_of}
-use Rattle.packed_batch.proofs.columns.weights_of.Given as goal
+use Rattle.packed_batch.proofs.weights.longs_of.Given as goal
 
 abbrev pub invariant-loop-entry : goal.invariant-loop-entry
 invariant-loop-entry l = record {
