@@ -33,8 +33,8 @@ pub fn named_edges(alloc: Global, batches: &[Batch]) -> Result<Vec<(u32, u32)>, 
 pub fn push_named(batch: &Batch, ends: &mut Vec<(u32, u32)>) -> Result<(), AllocError>
     ensures { OnOk result (ends.new.items ≡ ends.old.items ++ named_in batch.now) }
 {
-    'entries: for entry in batch.entries() {
-        match entry.ends() {
+    'entries: for index in 0..batch.len() {
+        match batch.entry(index).ends() {
             Some(named) => ends.push(named)?,
             None => {}
         }

@@ -1,10 +1,12 @@
-//! Tests of what only a call of a library shows: devices that are slow and interrupted, histories with little room, bytes of tails
+//! Tests of what only a call of a library shows: devices that are slow and interrupted, batches and their entries, histories with little room, bytes of tails
 //! and sets, forms of lists, forks and threads. What a script or a program can show is a case in `crates/test_cases/data`, or a script
 //! in `tests/checks` that makes many, and what a contract says of every value is not said again here.
 //!
 //! They are above the crates that they test, so that each of those is proved once.
 #![tactic(auto)]
 
+#[cfg(test)]
+mod batches;
 #[cfg(test)]
 mod chunk_sizes;
 #[cfg(test)]
@@ -17,8 +19,6 @@ mod forked_graphs;
 mod forked_sets;
 #[cfg(test)]
 mod graph_blocks;
-#[cfg(test)]
-mod packed_batches;
 #[cfg(test)]
 mod refused_growths;
 #[cfg(test)]

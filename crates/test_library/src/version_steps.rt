@@ -1,7 +1,6 @@
 //! Steps of versions whose history has little room, which no script has.
 use Asked::{Acquire, Commit, Release, Trim};
 use Reply::{Refused, Released, Ticket, Trimmed, Version};
-use packed_batch::PackedBatch;
 use std::alloc::Global;
 use std::thread::Threads;
 use test_helpers::{Checked, check};
@@ -20,7 +19,7 @@ enum Asked {
 impl Asked {
     fn step(self, alloc: Global) -> Step {
         match self {
-            Commit => Step::Commit(PackedBatch::listed(Batch::new(alloc))),
+            Commit => Step::Commit(Batch::new(alloc)),
             Acquire(which) => Step::Acquire(which),
             Release(number) => Step::Release(number),
             Trim => Step::Trim,

@@ -215,7 +215,10 @@ impl PlainWorld {
         step: &SessionStep,
     ) -> Result<SessionReply, Fail> {
         match step {
-            SessionStep::Commit(batch) => Ok(self.commit(batch.entries())?),
+            SessionStep::Commit(batch) => {
+                let entries = entries_of(alloc, batch)?;
+                Ok(self.commit(&entries)?)
+            }
             SessionStep::Acquire(which) => Ok(self.acquire(*which)?),
             SessionStep::Release(ticket) => Ok(self.release(*ticket)),
             SessionStep::Start {
@@ -281,4 +284,13 @@ fn run_afresh(
         stand = job.step(alloc, &mut alone)?;
     }
     Ok((stand, job.outcome(alloc)?))
+}
+
+// The entries of a batch.
+fn entries_of(alloc: Global, batch: &Batch) -> Result<Vec<Entry>, AllocError> {
+    let mut entries = Vec::with_capacity(alloc, batch.len())?;
+    for entry in batch.iter() {
+        entries.push(entry)?;
+    }
+    Ok(entries)
 }

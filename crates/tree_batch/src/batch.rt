@@ -1,10 +1,13 @@
 //! Batches of edges to add and to remove.
 
-ghost use Rattle.std.specs.Prelude.{◌≡◌, ◌++◌, [], ◌∷◌, IfErr, OnOk, OnErr};
+ghost use Rattle.std.specs.Prelude.{◌≡◌, ◌↔◌, ◌<◌, ◌++◌, [], ◌∷◌, IfErr, IsTrue, OnOk, OnErr, get_or, length};
 ghost use Rattle.std.specs.List.{list_any};
+ghost use Rattle.tree_batch.specs.declared.batch.Entry.{Entry};
 ghost use Rattle.tree_batch.specs.declared.error.GraphError.TheVariants.{NoMemory};
 ghost use Rattle.tree_batch.specs.Edge.{count_asked, entry_misfits, has_weight, misfits, named_by, vertices_after};
 
+use crate::batch_iter::BatchIter;
+use crate::entry_columns::EntryColumns;
 use crate::error::GraphError;
 use crate::graph::MAX_VERTICES;
 use std::alloc::{AllocError, Global};
@@ -68,14 +71,28 @@ impl Entry {
 
 /// Changes that are made together. For each edge that a batch names, its last entry that names
 /// the edge decides. Of the numbers of vertices that it asks for, the greatest counts, wherever it
-/// stands.
-#[derive(Debug, Drop)]
+/// is.
+///
+/// An entry takes 8 bytes, one more from the first entry on that adds no edge, and one or eight more from the first weight
+/// on that is not 1.
+#[derive(Debug)]
 pub struct Batch {
-    entries: Vec<Entry>,
+    entries: EntryColumns,
     /// The most vertices that an entry asks for, or 0.
     asked: u32,
     /// Whether some edge is added with a weight other than 1.
     weighted: bool,
+}
+
+// By hand: a derived drop would be written out, and proved again, in each function that lets a batch go.
+impl Drop for Batch {
+    fn drop(self) {
+        let Batch {
+            entries: _,
+            asked: _,
+            weighted: _,
+        } = self;
+    }
 }
 
 impl Model for Batch {
@@ -86,10 +103,10 @@ impl Model for Batch {
 
     ghost Value = { List Entry };
 
-    ghost view = { λ b. b.entries.items };
+    ghost view = { λ b. b.entries };
 
-    ghost invariant = { λ b. (b.asked ≡ most_asked b.entries.items)
-        × (b.weighted ≡ list_any has_weight b.entries.items) };
+    ghost invariant = { λ b. (b.asked ≡ most_asked b.entries)
+        × (b.weighted ≡ list_any has_weight b.entries) };
 }
 
 impl Clone for Batch {
@@ -98,7 +115,7 @@ impl Clone for Batch {
     /// A batch with the same entries.
     fn clone(&self) -> Result<Batch, AllocError> {
         Ok(Batch {
-            entries: Vec::from_slice(*self.entries.allocator(), &self.entries)?,
+            entries: self.entries.clone()?,
             asked: self.asked,
             weighted: self.weighted,
         })
@@ -111,7 +128,7 @@ impl Batch {
         ensures { result ≡ [] }
     {
         Batch {
-            entries: Vec::new(alloc),
+            entries: EntryColumns::new(alloc),
             asked: 0,
             weighted: false,
         }
@@ -137,11 +154,41 @@ impl Batch {
         Ok(())
     }
 
-    /// The entries in the order in which they were pushed. It takes no memory.
-    pub fn entries(&self) -> &[Entry]
-        ensures { result.now ≡ self.now }
+    /// How many entries there are. It takes constant time.
+    #[inline]
+    pub fn len(&self) -> usize
+        ensures { result ≡ length self.now }
     {
-        &self.entries
+        self.entries.len()
+    }
+
+    /// Whether there is no entry. It takes constant time.
+    pub fn is_empty(&self) -> bool
+        ensures { IsTrue result ↔ (self.now ≡ []) }
+    {
+        self.len() == 0
+    }
+
+    /// The entry at an index, which is below the length. It takes constant time.
+    #[inline]
+    pub fn entry(&self, index: usize) -> Entry
+        requires { index < length self.now }
+        ensures { (d : Entry) → result ≡ get_or self.now index d }
+    {
+        self.entries.entry(index)
+    }
+
+    /// The entries in the order in which they were pushed. It takes no memory.
+    ///
+    /// # Example
+    ///
+    /// ```
+    /// for entry in batch.iter() {
+    /// ```
+    pub fn iter(&self) -> BatchIter<'_>
+        ensures { result ≡ self.now }
+    {
+        BatchIter::new(self)
     }
 
     /// Whether some edge is added with a weight other than 1. It takes constant time.
@@ -161,13 +208,15 @@ impl Batch {
     /// Whether a graph with this many vertices refuses the batch: an entry names a vertex that the graph
     /// does not have after the batch, or asks for fewer vertices than there are or for more than
     /// 16,777,216.
-    #[tactic(auto, unfolding(crate::specs::Edge::misfits))]
     pub fn misfits(&self, vertices: u32) -> bool
         ensures { result ≡ misfits vertices self.now }
     {
         let after = self.vertices_after(vertices);
-        self.entries
-            .iter()
-            .any(|entry| entry.misfits(vertices, after))
+        for index in 0..self.len() {
+            if self.entry(index).misfits(vertices, after) {
+                return true;
+            }
+        }
+        false
     }
 }

@@ -21,8 +21,10 @@
 #![tactic(auto)]
 
 mod batch;
+mod batch_iter;
 mod cuts;
 mod edges;
+mod entry_columns;
 mod error;
 mod forked;
 mod graph;
@@ -32,8 +34,10 @@ mod neighbours;
 mod transposed;
 mod updates;
 mod vertices;
+mod weights;
 
 pub use batch::{Batch, Entry};
+pub use batch_iter::BatchIter;
 pub use edges::EdgeIter;
 pub use error::GraphError;
 pub use graph::{Graph, MAX_VERTICES};

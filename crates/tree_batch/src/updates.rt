@@ -31,11 +31,11 @@ pub(crate) fn updates(alloc: Global, batch: &Batch) -> Result<SortedUpdates, All
         → decided_weight (sorted_pairs s) p ≡ decision batch.now p) }
 {
     if batch.is_weighted() {
-        let mut updates = unsorted_with_weights(alloc, batch.entries())?;
+        let mut updates = unsorted_with_weights(alloc, batch)?;
         sort_lasts(alloc, &mut updates)?;
         return Ok(SortedUpdates::Weighted(updates));
     }
-    let mut updates = unsorted(alloc, batch.entries())?;
+    let mut updates = unsorted(alloc, batch)?;
     sort_lasts(alloc, &mut updates)?;
     Ok(SortedUpdates::Unweighted(updates))
 }
@@ -52,11 +52,11 @@ pub(crate) fn updates_forked<R: Threads + Sync>(
         → decided_weight (sorted_pairs s) p ≡ decision batch.now p) }
 {
     if batch.is_weighted() {
-        let mut updates = unsorted_with_weights(alloc, batch.entries())?;
+        let mut updates = unsorted_with_weights(alloc, batch)?;
         sort_lasts_forked(rt, alloc, &mut updates)?;
         return Ok(SortedUpdates::Weighted(updates));
     }
-    let mut updates = unsorted(alloc, batch.entries())?;
+    let mut updates = unsorted(alloc, batch)?;
     sort_lasts_forked(rt, alloc, &mut updates)?;
     Ok(SortedUpdates::Unweighted(updates))
 }
@@ -88,34 +88,31 @@ fn sort_lasts_forked<T: Update + Send, R: Threads + Sync>(
     Ok(())
 }
 
-/// What entries say of edges, in their order, if each added edge has weight 1.
-fn unsorted(alloc: Global, entries: &[Entry]) -> Result<Vec<EdgeUpdate>, AllocError>
-    requires inside { All (NamesWithin 16777216) entries.now }
-    requires unweighted { list_any has_weight entries.now ≡ false }
+/// What the entries of a batch say of edges, in their order, if each added edge has weight 1.
+fn unsorted(alloc: Global, batch: &Batch) -> Result<Vec<EdgeUpdate>, AllocError>
+    requires inside { All (NamesWithin 16777216) batch.now }
+    requires unweighted { list_any has_weight batch.now ≡ false }
     ensures { IfOk result (λ v. (p : Ends)
-        → decided_weight (map unit_pair v.items) p ≡ decision entries.now p) }
+        → decided_weight (map unit_pair v.items) p ≡ decision batch.now p) }
 {
-    let mut updates = Vec::with_capacity(alloc, entries.len())?;
-    for entry in entries {
-        if let Some(update) = update(*entry) {
+    let mut updates = Vec::with_capacity(alloc, batch.len())?;
+    for index in 0..batch.len() {
+        if let Some(update) = update(batch.entry(index)) {
             updates.push_reserved(update.update);
         }
     }
     Ok(updates)
 }
 
-/// What entries say of edges, in their order.
-fn unsorted_with_weights(
-    alloc: Global,
-    entries: &[Entry],
-) -> Result<Vec<WeightedUpdate>, AllocError>
-    requires { All (NamesWithin 16777216) entries.now }
+/// What the entries of a batch say of edges, in their order.
+fn unsorted_with_weights(alloc: Global, batch: &Batch) -> Result<Vec<WeightedUpdate>, AllocError>
+    requires { All (NamesWithin 16777216) batch.now }
     ensures { IfOk result (λ v. (p : Ends)
-        → decided_weight (pairs_in v.items) p ≡ decision entries.now p) }
+        → decided_weight (pairs_in v.items) p ≡ decision batch.now p) }
 {
-    let mut updates = Vec::with_capacity(alloc, entries.len())?;
-    for entry in entries {
-        if let Some(update) = update(*entry) {
+    let mut updates = Vec::with_capacity(alloc, batch.len())?;
+    for index in 0..batch.len() {
+        if let Some(update) = update(batch.entry(index)) {
             updates.push_reserved(update);
         }
     }

@@ -1,6 +1,6 @@
 //! Steps of the versions, their replies, and tickets.
 
-use packed_batch::PackedBatch;
+use tree_batch::Batch;
 
 /// Which version is asked for.
 #[derive(Clone, Copy, Debug, PartialEq, Eq)]
@@ -17,10 +17,10 @@ pub struct Ticket {
 }
 
 /// What is asked of the versions: a batch to commit, a version to hold, a ticket to give back, or to
-/// drop the entries of the history. A batch is packed, since the history keeps it.
+/// drop the entries of the history.
 #[derive(Debug, Drop)]
 pub enum Step {
-    Commit(PackedBatch),
+    Commit(Batch),
     Acquire(Which),
     Release(u64),
     Trim,

@@ -22,7 +22,6 @@ use crate::error::VersionError;
 use crate::held::HeldVersions;
 use crate::prepared::{Prepared, PreparedAcquire, PreparedTrim};
 use crate::step::{Done, Reply, Step, Ticket, Which};
-use packed_batch::PackedBatch;
 use std::alloc::{AllocError, Global};
 use std::marker::Model;
 use std::thread::Threads;
@@ -140,7 +139,7 @@ impl Versions {
             return Err(refusal_when_full(&batch, self.newest.vertices()));
         }
         let graph = self.newest.apply(alloc, &batch)?;
-        let prepared = self.reserve_entry(alloc, batch, graph)?;
+        let prepared = self.reserve_entry(batch, graph)?;
         Ok(self.finish(prepared))
     }
 
@@ -179,7 +178,7 @@ impl Versions {
             return Err(refusal_when_full(&batch, self.newest.vertices()));
         }
         let graph = self.newest.apply_forked(rt, alloc, &batch, forks, &Quiet)?;
-        self.reserve_entry(alloc, batch, graph)
+        self.reserve_entry(batch, graph)
     }
 
     /// Commits what was prepared, where no step was accepted since, and answers the new version's
@@ -448,10 +447,7 @@ impl Versions {
         ensures { Takes self.old step.now result self.new }
     {
         let answer = match step {
-            Step::Commit(batch) => {
-                let batch = batch.to_batch(alloc)?;
-                self.commit(alloc, batch).map(Reply::Version)
-            }
+            Step::Commit(batch) => self.commit(alloc, batch.clone()?).map(Reply::Version),
             Step::Acquire(which) => {
                 let version = self.number_asked(*which);
                 self.acquire(*which)
@@ -470,19 +466,13 @@ impl Versions {
         }
     }
 
-    /// Packs a batch for its entry, and takes the memory of the entry.
-    fn reserve_entry(
-        &mut self,
-        alloc: Global,
-        batch: Batch,
-        graph: Graph,
-    ) -> Result<Prepared, VersionError>
+    /// Takes the memory of a commit's entry.
+    fn reserve_entry(&mut self, batch: Batch, graph: Graph) -> Result<Prepared, VersionError>
         requires answer { reply_to self.old.state (Commit batch) ≡ reply.Version (newest_number self.old.state + 1) }
         requires graph { graph ≡ graph_after (version_graph self.old.state (newest_number self.old.state)) batch }
         ensures ok { IfOk result (λ p. (self.new ≡ record self.old { reserved = 1 }) × IsPrepared self.new batch p) }
         ensures err { IfErr result (λ e. (e ≡ NoMemory) × (self.new ≡ self.old)) }
     {
-        let batch = PackedBatch::of(alloc, batch)?;
         self.history.reserve(self.held.ticket_count() + 1)?;
         self.reserved = 1;
         let number = self.number + 1;

@@ -5,9 +5,9 @@ use Rattle.edge_updates.specs.Updates.{decided_weight}
 use Rattle.tree_batch.specs.Edge.{Ends, decision}
 use Rattle.tree_batch.proofs.updates.unsorted.Given as goal
 
-abbrev pub invariant-loop-entry : goal.invariant-loop-entry
-invariant-loop-entry l = record {
-  same : (p : Ends) → decided_weight (map unit_pair l.updates.items) p ≡ decision (take l.entry-index l.entries) p;
-  len : vec_len l.updates ≤ l.entry-index;
-  room : length l.entries ≤ vec_capacity l.updates;
+abbrev pub invariant-loop-index : goal.invariant-loop-index
+invariant-loop-index l = record {
+  same : (p : Ends) → decided_weight (map unit_pair l.updates.items) p ≡ decision (take l.index l.batch) p;
+  len : vec_len l.updates ≤ l.index;
+  room : length l.batch ≤ vec_capacity l.updates;
 }
