@@ -12,7 +12,7 @@ entries-preserved c =
     let i = c.entries.index in
     let x : Entry = c.entry.result in
     let before = c.entries.ends.items in
-    let inside : i < length xs = omega (arith, c.entries-test.true, c.len-entries-end.ensures) in
+    let inside : i < length xs = omega (arith, c.entries-test.true, c.len-index-end.ensures) in
     let named : c.ends.result ≡ named_by (get_or xs i x) = c.ends.ensures ∙ ap named_by (c.entry.ensures x) in
     named_more xs i x c.ends.result c.args.ends.now.items before c.match-ends.ends.items inside named c.entries.invariant (elim c.match-ends.branch [
       | in-Some+in_ok-push-in-Some w ↦
