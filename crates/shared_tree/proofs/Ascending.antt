@@ -1,6 +1,7 @@
 -- Entries that are read one after another.
-use Rattle.std.proofs.Common.{◌≡◌, ℕ, ◌+◌, ◌^◌, ◌<◌, ◌≤◌, List, [], ◌∷◌, ◌++◌, length, get_or, take, drop, sym, ap, ◌∙◌, append_assoc, arith}
-use Rattle.std.proofs.lemmas.List.{take_more, take-append-drop, take_all}
+use Rattle.std.proofs.Common.{◌≡◌, ℕ, ◌+◌, ◌-◌, ◌^◌, ◌<◌, ◌≤◌, List, [], ◌∷◌, ◌++◌, length, get_or, set, take, drop, sym, ap, ◌∙◌, append_assoc, arith}
+use Rattle.std.specs.List.{swap_remove}
+use Rattle.std.proofs.lemmas.List.{take_more, take-append-drop, take-set, take_all}
 use Rattle.ascending_lists.specs.Maps.{Rises, IsMap}
 use Rattle.ascending_lists.proofs.MapOrder.{rises_to, rises_left, rises_right, rises_joined, rises_front, rises_back}
 
@@ -40,3 +41,11 @@ module _ {V : Type 0} where
   -- make a map
   pub map_taken : (a b r : List (ℕ × V)) (e : ℕ × V) (c d l : List (ℕ × V)) → IsMap a → a ≡ b ++ r → b ≡ c ++ e ∷ [] → c ≡ d ++ l → IsMap (l ++ e ∷ r)
   map_taken a b r e c d l m p q s = rises_back 0 (2 ^ 32) d (l ++ e ∷ r) (rw (taken a b r e c d l p q s) at m)
+
+-- the last element, which was taken out
+pub last_taken : {A : Type 0} → (xs ys : List A) (i : ℕ) (x : A) → i + 1 ≡ length xs → x ≡ get_or xs i x → ys ≡ swap_remove xs i x → xs ≡ ys ++ x ∷ []
+last_taken xs ys i x last is swapped =
+    let at : length xs - 1 ≡ i = omega arith in
+    let lt : i < length xs = omega arith in
+    let rest : ys ≡ take i xs = swapped ∙ ap (λ n. take n (set xs i (get_or xs n x))) at ∙ take-set xs i (get_or xs i x) in
+    sym (take_all (i + 1) xs (omega arith)) ∙ take_more xs i x lt ∙ ap (λ y. take i xs ++ y ∷ []) (sym is) ∙ ap (λ zs. zs ++ x ∷ []) (sym rest)

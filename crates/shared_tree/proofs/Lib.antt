@@ -6,6 +6,7 @@ pub mod Depths
 pub mod Halves
 pub mod Ascending
 pub mod Stacks
+pub mod Lowest
 pub mod Lookups
 pub mod CutMaps
 pub mod ChangedMaps

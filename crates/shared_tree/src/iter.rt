@@ -4,30 +4,32 @@ ghost use Rattle.std.specs.Prelude.{◌≡◌, ◌+◌, ◌^◌, ◌≤◌, ◌+
 ghost use Rattle.std.specs.Iterator.{YieldsFirstBy, item_count};
 ghost use Rattle.shared_tree.specs.inside.Shape.{seen, IsBalanced};
 ghost use Rattle.shared_tree.specs.inside.Pending.{pending, HasRoom};
+ghost use Rattle.shared_tree.specs.declared.tree.Link.TheVariants.{Empty};
 
 use crate::tree::{Link, Tree};
 use std::marker::Model;
 
-// No tree is deeper.
-const DEEPEST: usize = 64;
+// A tree is at most 64 deep, and the links to its nodes lie above an empty one.
+const ROOM: usize = 65;
 
 /// The entries of a tree that are still to come, in ascending order of keys.
 #[derive(Drop)]
 pub struct Iter<'a, V> {
-    links: [&'a Link<V>; DEEPEST],
+    /// An empty link, and above it a stack of links to nodes. So the walk ends at an empty link.
+    links: [&'a Link<V>; ROOM],
     height: usize,
 }
 
 impl<'a, V> Model for Iter<'a, V> {
-    ghost use Rattle.std.specs.Prelude.{◌≡◌, ℕ, ◌≤◌, List, length, take};
-    ghost use Rattle.shared_tree.specs.inside.Pending.{pending, HasRoom};
+    ghost use Rattle.std.specs.Prelude.{◌≡◌, ℕ, ◌≤◌, List, drop, length, take};
+    ghost use Rattle.shared_tree.specs.inside.Pending.{pending, HasRoom, IsOverEmpty};
 
     ghost Value = { List (ℕ × V) };
 
-    ghost view = { λ i. pending (take i.height i.links) };
+    ghost view = { λ i. pending (take i.height (drop 1 i.links)) };
 
-    ghost invariant = { λ i. (length i.links ≡ 64) × (i.height ≤ 64)
-        × HasRoom 0 (take i.height i.links) };
+    ghost invariant = { λ i. (length i.links ≡ 65) × (i.height ≤ 64)
+        × HasRoom 0 (take i.height (drop 1 i.links)) × IsOverEmpty i.links };
 }
 
 impl<V> Tree<V> {
@@ -40,23 +42,31 @@ impl<V> Tree<V> {
     {
         prove!(self.depth() <= 64);
         let link = self.link();
-        let mut links = [link; DEEPEST];
-        let height = descend(&mut links, 0, link);
+        let mut links = [link; ROOM];
+        let (height, lowest) = descend(&mut links[1..], 0, link);
+        let all = &mut links[..];
+        all[0] = lowest;
         Iter { links, height }
     }
 }
 
-/// Puts the way down the left side below a link on top of a stack, and gives the new height.
+/// Puts the way down the left side below a link on top of a stack. It gives the new height, and the
+/// empty link at the end of the way.
 #[inline]
-fn descend<'a, V>(links: &mut [&'a Link<V>], height: usize, link: &'a Link<V>) -> usize
+fn descend<'a, V>(
+    links: &mut [&'a Link<V>],
+    height: usize,
+    link: &'a Link<V>,
+) -> (usize, &'a Link<V>)
     requires indices { length links.old ≡ 64 }
     requires balanced { IsBalanced link.now }
     requires room { height + (seen link.now).depth ≤ 64 }
     requires stack { HasRoom 0 (take height links.old) }
-    ensures height { result ≤ 64 }
-    ensures stack { HasRoom 0 (take result links.new) }
-    ensures entries { pending (take result links.new)
+    ensures height { result.0 ≤ 64 }
+    ensures stack { HasRoom 0 (take result.0 links.new) }
+    ensures entries { pending (take result.0 links.new)
         ≡ (seen link.entry.now).entries ++ pending (take height links.old) }
+    ensures end { result.1.now ≡ Empty }
 {
     let mut top = height;
     let mut next = link;
@@ -65,7 +75,7 @@ fn descend<'a, V>(links: &mut [&'a Link<V>], height: usize, link: &'a Link<V>) -
         top += 1;
         next = node.left.link();
     }
-    top
+    (top, next)
 }
 
 impl<'a, V> Iterator for Iter<'a, V> {
@@ -77,16 +87,13 @@ impl<'a, V> Iterator for Iter<'a, V> {
 
     #[inline]
     fn next(&mut self) -> Option<(u32, &'a V)> {
-        if self.height == 0 {
-            return None;
-        }
-        let height = self.height - 1;
+        let height = self.height;
         let links = &mut self.links[..];
         let link = links[height];
         match link {
-            Link::Empty => unreachable!(),
+            Link::Empty => None,
             Link::Fork { key, node, .. } => {
-                let top = descend(links, height, node.right.link());
+                let (top, _) = descend(&mut links[1..], height - 1, node.right.link());
                 self.height = top;
                 Some((*key, &node.value))
             }

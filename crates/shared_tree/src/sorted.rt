@@ -1,6 +1,6 @@
 //! Trees built from entries in order.
 
-ghost use Rattle.std.specs.Prelude.{◌≡◌, ◌+◌, ◌≤◌, ◌↔◌, ◌++◌, vec_len, IsTrue, IfOk, OnOk};
+ghost use Rattle.std.specs.Prelude.{◌≡◌, ◌+◌, ◌<◌, ◌≤◌, ◌↔◌, ◌∷◌, [], ◌++◌, vec_len, IsTrue, IfOk, OnOk};
 ghost use Rattle.ascending_lists.specs.Maps.{IsMap};
 ghost use Rattle.shared_tree.specs.Outcome.{Builds};
 ghost use Rattle.shared_tree.specs.inside.Outcome.{IsLeastDepth};
@@ -70,9 +70,18 @@ fn build<V: Drop>(
     }
     let half = count / 2;
     let right = build(alloc, entries, half)?;
-    let Some((key, value)) = entries.pop() else {
-        unreachable!()
-    };
+    let (key, value) = take_last(entries);
     let left = build(alloc, entries, count - half - 1)?;
     Ok(fork_new(alloc, left, key, value, right)?)
+}
+
+/// The last element of a list that has one, which is taken out.
+#[inline]
+fn take_last<T>(list: &mut Vec<T>) -> T
+    requires { 0 < vec_len list.old }
+    ensures items { list.old.items ≡ list.new.items ++ result ∷ [] }
+    ensures len { vec_len list.new + 1 ≡ vec_len list.old }
+{
+    let last = list.len() - 1;
+    list.swap_remove(last)
 }

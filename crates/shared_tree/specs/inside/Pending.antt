@@ -1,5 +1,5 @@
 -- What an iterator over a tree has still to give.
-use Rattle.std.specs.Prelude.{ℕ, ◌+◌, ◌≤◌, List, [], ◌∷◌, ◌++◌}
+use Rattle.std.specs.Prelude.{◌≡◌, ℕ, ◌+◌, ◌≤◌, List, [], ◌∷◌, ◌++◌}
 use Rattle.std.specs.Borrow.{Bor}
 use Rattle.shared_tree.specs.declared.tree.Link.{Link}
 use Rattle.shared_tree.specs.declared.tree.Link.TheVariants.{Empty, Fork}
@@ -23,3 +23,8 @@ HasRoomAt i (Fork depth key node) = i + node.value.right.depth ≤ 64
 abbrev pub HasRoom : {V : Type 0} → ℕ → List (Bor (Link V)) → Type 0
 HasRoom i [] = Unit {0}
 HasRoom i (s ∷ ss) = HasRoomAt i s.now × HasRoom (i + 1) ss
+
+-- the lowest link is empty
+abbrev pub IsOverEmpty : {V : Type 0} → List (Bor (Link V)) → Type 0
+IsOverEmpty [] = ⊥
+IsOverEmpty (s ∷ ss) = s.now ≡ Empty

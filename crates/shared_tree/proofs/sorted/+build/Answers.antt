@@ -6,11 +6,11 @@ use Rattle.shared_tree.proofs.sorted.+build.Goals as goal
 
 pub build-requires-2 : goal.build-requires-2
 build-requires-2 g t c κs within =
-    (omega arith, (search rules, (omega (arith, c.in_ok-right.ensures.left, c.in-Some.ensures.len), map_rest _ _ _ _ _ c.requires.map c.in_ok-right.ensures.taken c.in-Some.ensures.items)))
+    (omega arith, (search rules, (omega (arith, c.in_ok-right.ensures.left, c.take_last-key.ensures.len), map_rest _ _ _ _ _ c.requires.map c.in_ok-right.ensures.taken c.take_last-key.ensures.items)))
 
 pub fork_new-requires-clause-map : goal.fork_new-requires-clause-map
 fork_new-requires-clause-map g t c =
-    map_taken _ _ _ _ _ _ _ c.requires.map c.in_ok-right.ensures.taken c.in-Some.ensures.items c.in_ok-left.ensures.taken
+    map_taken _ _ _ _ _ _ _ c.requires.map c.in_ok-right.ensures.taken c.take_last-key.ensures.items c.in_ok-left.ensures.taken
 
 pub fork_new-requires-clause-balanced : goal.fork_new-requires-clause-balanced
 fork_new-requires-clause-balanced g t c =
@@ -19,7 +19,7 @@ fork_new-requires-clause-balanced g t c =
 
 pub returns-clause-taken : goal.returns-clause-taken
 returns-clause-taken g t c =
-    rw c.in_ok-fork_new.ensures.entries (taken _ _ _ _ _ _ _ c.in_ok-right.ensures.taken c.in-Some.ensures.items c.in_ok-left.ensures.taken)
+    rw c.in_ok-fork_new.ensures.entries (taken _ _ _ _ _ _ _ c.in_ok-right.ensures.taken c.take_last-key.ensures.items c.in_ok-left.ensures.taken)
 
 pub returns-clause-deep : goal.returns-clause-deep
 returns-clause-deep g t c =
