@@ -44,7 +44,7 @@ chosen_at chosen to test reached v b are listed is =
 
 pub changes_followed : (now : Apply) (former : FormerApply) (d : Differences) (test : ℕ → Bool) (reached chosen : List ℕ) (found all : List VectorChanges)
     → IsFollowed now former d test reached chosen found all → AreChangesReduced now all
-changes_followed now former d test reached chosen found all is m steps from to vectors sized kernels is_from is_to x r by long =
+changes_followed now former d test reached chosen found all is m steps from to vectors sized kernels is_from is_to x by long =
     let was = former.apply in
     let differ = is.follows.differ in
     let n = now.flat.now.vertices in
@@ -75,7 +75,7 @@ changes_followed now former d test reached chosen found all is m steps from to v
     let were : was.flat.now.vertices ≤ length (slice_index_or k.vectors x []) =
     differ.long x (subst (λ (vs : List (List ℤ)). n ≤ length (slice_index_or vs x [])) (sym vectors) long) in
     let recorded : changes_of x former.changes.now.vectors.items ≡ changed n before after =
-    is.follows.changes k steps source.former destination.former refl also (differ.kernels steps kernels) source.is destination.is x r by were
+    is.follows.changes k steps source.former destination.former refl also (differ.kernels steps kernels) source.is destination.is x by were
     ∙ ap (λ (count : ℕ). changed count before after) differ.vertices in
     let at_test : (v : ℕ) → v < n → (b : Bool) → test v ≡ b → SplitsAt test old new pulled before after v =
     λ v l b. elim b as (λ c. test v ≡ c → SplitsAt test old new pulled before after v) [
@@ -92,4 +92,4 @@ changes_followed now former d test reached chosen found all is m steps from to v
     ] in
     is.spliced_are x
     ∙ split test old new pulled before after n (changes_of x found) (changes_of x former.changes.now.vectors.items)
-    (is.pulled m steps from vectors sized kernels is_from x r (by m) long) recorded (λ v l. at_test v l (test v) refl)
+    (is.pulled m steps from vectors sized kernels is_from x (by m).0 (by m).1 long) recorded (λ v l. at_test v l (test v) refl)

@@ -7,4 +7,4 @@ use Rattle.follow_engine.specs.Reduced.{AreChangesReduced}
 
 -- what a push or a pull promises is more than what a record has to have
 pub changes_recorded : (a : Apply) (cs : List VectorChanges) → AreChangesOf a cs → AreChangesReduced a cs
-changes_recorded a cs are m steps from to vectors sizes kernels is_from is_to x r by long = are m steps from to vectors sizes kernels is_from is_to x r (by m) long
+changes_recorded a cs are m steps from to vectors sizes kernels is_from is_to x by long = are m steps from to vectors sizes kernels is_from is_to x (by m).0 (by m).1 long

@@ -10,7 +10,7 @@
 //! the same in both applies unless it is reached (`is_reached`): it is named, or a named edge leads to it, or an edge leads to
 //! it from a named source or from a source with a named entry. [`mark_reached`] marks these destinations. A pull into them
 //! finds their changes, and all other changes are those of the record; [`splice`] makes one list of both. The contract is that
-//! of the engines, for functions that give each vector numbers by one reduction in every state (`AreChangesReduced`).
+//! of the engines, for functions that, in every state, give each vector numbers by one reduction (`AreChangesReduced`).
 //!
 //! Following is worth it only if few destinations are reached. So a budget bounds the edges from named vertices, and then
 //! those to reached destinations. If it is spent, [`follow`] answers `None`, and the caller does the whole apply by an engine.
