@@ -22,7 +22,7 @@ mod weighted_members;
 pub use apply::Apply;
 pub use joining::{join_all, part_between};
 pub use members::{keep_members, passes};
-pub use merging::{is_worth_workers, merge_by_ranges};
+pub use merging::{count_found, is_worth_workers, merge_by_ranges};
 pub use modified::apply_modified;
 pub use parts::take_part;
 pub use passing::{passing_between, passing_set};

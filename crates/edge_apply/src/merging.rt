@@ -104,11 +104,18 @@ const MANY_NUMBERS: usize = 16_384;
 pub fn is_worth_workers(found: &[Found<Gathered>]) -> bool
     ensures { result ≡ nat_le 16384 (numbers_found found.now) }
 {
+    MANY_NUMBERS <= count_found(found)
+}
+
+/// How many numbers pieces have gathered, or `usize::MAX` if they are more.
+pub fn count_found(found: &[Found<Gathered>]) -> usize
+    ensures { result ≡ min (numbers_found found.now) (2 ^ 64 - 1) }
+{
     let mut numbers = 0usize;
     'found: for one in found {
         numbers = numbers.saturating_add(count_numbers(&one.out.vectors));
     }
-    MANY_NUMBERS <= numbers
+    numbers
 }
 
 /// How many numbers there are for all vectors, or `usize::MAX` if they are more.

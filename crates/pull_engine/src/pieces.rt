@@ -19,7 +19,7 @@ use crate::ranges::PullRange;
 use crate::shapes::{ShapeTarget, pull_shape, shape_target};
 use crate::work::PullWork;
 use crew::{Found, Work};
-use edge_apply::join_all;
+use edge_apply::{count_found, join_all};
 use edge_fold::{ApplyContext, FoldStart, Gathered, GatheredIn, Scratch};
 use kernels::EndpointFilter;
 use std::alloc::{AllocError, Global};
@@ -210,7 +210,7 @@ fn append_pieces(
     ensures { IfOk result (λ cs. (parts : ℕ → List Change) → IsPermutation (pieces_of found.now) (range_with_len 1 pieces)
         → AreAnswers (λ k g. all_listed g.vectors.items ≡ parts k) found.now → cs.items ≡ flat_map parts (range_with_len 1 pieces)) }
 {
-    let mut changes = Vec::new(alloc);
+    let mut changes = Vec::with_capacity(alloc, count_found(found))?;
     'pieces: for index in 0..pieces {
         match find_piece(found, index + 1) {
             Some(one) => append_listed(&one.vectors, &mut changes)?,

@@ -1,7 +1,6 @@
 -- Proofs of `push`, src/entry_columns.rt.
 use Rattle.std.proofs.Common.{◌≡◌, ◌++◌, ◌∷◌, [], List, ℤ, length, refl, ap, ◌∙◌, arith, rules, w64}
 use Rattle.std.proofs.lemmas.Int.{to_z-of_z}
-use Rattle.tree_batch.specs.declared.entry_columns.EntryKind.{EntryKind}
 use Rattle.tree_batch.specs.declared.entry_columns.EntryNumbers.{EntryNumbers}
 use Rattle.tree_batch.specs.inside.EntryColumns.{entries_from, numbers_of}
 use Rattle.tree_batch.specs.inside.Weights.{weights_in}

@@ -1,6 +1,6 @@
 use Rattle.std.proofs.Common.{◌≡◌, ◌-◌, ◌^◌, min, take}
 use Rattle.edge_apply.specs.GatheredNumbers.{numbers_found}
-use Rattle.edge_apply.proofs.merging.is_worth_workers.Given as goal
+use Rattle.edge_apply.proofs.merging.count_found.Given as goal
 
 -- the numbers of the pieces that have come are counted
 abbrev pub invariant-found : goal.invariant-found
