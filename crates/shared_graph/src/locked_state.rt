@@ -203,11 +203,7 @@ fn prepare_commit<J: Naming, R: Wait + Drop, T: Threads + Wait + Sync>(
     ensures same { IfOk result (λ _. me.new ≡ me.old) }
     ensures err { IfErr result (λ e. Refuses (opened J.vertices J.room) me.old (Commit batch) e me.new) }
 {
-    let forks = if batch.len() < MANY_ENTRIES {
-        0
-    } else {
-        FORKS
-    };
+    let forks = if batch.len() < MANY_ENTRIES { 0 } else { FORKS };
     let prepared = match versions.prepare(rt, alloc, batch, forks) {
         Ok(prepared) => prepared,
         Err(error) => return Err(published_log.refuse(rt, me, error)),

@@ -74,9 +74,11 @@ fn has_entries(batch: &Batch, (entries, rounds): Row) -> bool {
 fn check_row(alloc: Global, row: Row) -> Result<Checked, GraphError> {
     let batch = batch_of(alloc, row)?;
     let copy = batch.clone()?;
-    Ok(check(has_entries(&batch, row), "the entries")
-        .and(check(has_entries(&copy, row), "the entries of the copy"))
-        .and(check(batch.is_empty() == (batch.len() == 0), "the length")))
+    Ok(
+        check(has_entries(&batch, row), "the entries")
+            .and(check(has_entries(&copy, row), "the entries of the copy"))
+            .and(check(batch.is_empty() == (batch.len() == 0), "the length")),
+    )
 }
 
 #[test]
@@ -101,6 +103,14 @@ fn check_history(alloc: Global, row: Row) -> Result<Checked, VersionError> {
 
 #[test]
 fn a_history_has_the_entries_of_a_batch(rt: HostRuntime) {
-    assert_eq!(rt; check_history(rt.alloc(), ROWS[1]), Ok(Ok(())), "without weights");
-    assert_eq!(rt; check_history(rt.alloc(), ROWS[3]), Ok(Ok(())), "with weights");
+    assert_eq!(rt;
+        check_history(rt.alloc(), ROWS[1]),
+        Ok(Ok(())),
+        "without weights"
+    );
+    assert_eq!(rt;
+        check_history(rt.alloc(), ROWS[3]),
+        Ok(Ok(())),
+        "with weights"
+    );
 }

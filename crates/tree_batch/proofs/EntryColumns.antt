@@ -41,7 +41,7 @@ same_columns i (n ∷ ns) ks ms ws vs kinds weights =
     ap (λ k. entry_of k n (get_or vs i (pos 1)) ∷ entries_from (suc i) ns ms vs) (kinds i (omega arith))
     ∙ ap (λ w. entry_of (get_or ks i Adds) n w ∷ entries_from (suc i) ns ms vs) (weights i (omega arith))
     ∙ ap (λ xs. entry_of (get_or ks i Adds) n (get_or ws i (pos 1)) ∷ xs)
-      (same_columns (suc i) ns ks ms ws vs (λ j lt. kinds j (omega (arith, lt))) (λ j lt. weights j (omega (arith, lt))))
+    (same_columns (suc i) ns ks ms ws vs (λ j lt. kinds j (omega (arith, lt))) (λ j lt. weights j (omega (arith, lt))))
 
 -- one more row of numbers
 columns_longer : (i : ℕ) (ns : List EntryNumbers) (n : EntryNumbers) (ks : List EntryKind) (ws : List ℤ)
@@ -52,7 +52,7 @@ columns_longer i [] n ks ws =
 columns_longer i (m ∷ ns) n ks ws =
     let same : suc i + length ns ≡ i + suc (length ns) = omega arith in
     ap (λ xs. entry_of (get_or ks i Adds) m (get_or ws i (pos 1)) ∷ xs) (columns_longer (suc i) ns n ks ws
-      ∙ ap (λ k. entries_from (suc i) ns ks ws ++ entry_of (get_or ks k Adds) n (get_or ws k (pos 1)) ∷ []) same)
+    ∙ ap (λ k. entries_from (suc i) ns ks ws ++ entry_of (get_or ks k Adds) n (get_or ws k (pos 1)) ∷ []) same)
 
 -- one more entry
 pub columns_pushed : (n : ℕ) (ns new : List EntryNumbers) (ks ms : List EntryKind) (ws vs : List ℤ) (x : Entry) → n ≡ length ns → new ≡ ns ++ numbers_of x ∷ []
@@ -64,7 +64,7 @@ columns_pushed n ns new ks ms ws vs x end is kinds kind weights weight =
     ap (λ zs. entries_from 0 zs ms vs) is ∙ columns_longer 0 ns (numbers_of x) ms vs
     ∙ ap (λ k. entries_from 0 ns ms vs ++ entry_of (get_or ms k Adds) (numbers_of x) (get_or vs k (pos 1)) ∷ []) last
     ∙ ap (λ xs. xs ++ entry_of (get_or ms (length ns) Adds) (numbers_of x) (get_or vs (length ns) (pos 1)) ∷ [])
-      (same_columns 0 ns ks ms ws vs (λ j lt. kinds j (omega (arith, lt, end))) (λ j lt. weights j (omega (arith, lt, end))))
+    (same_columns 0 ns ks ms ws vs (λ j lt. kinds j (omega (arith, lt, end))) (λ j lt. weights j (omega (arith, lt, end))))
     ∙ ap (λ k. entries_from 0 ns ks ws ++ entry_of k (numbers_of x) (get_or vs (length ns) (pos 1)) ∷ []) (ap (λ k. get_or ms k Adds) (sym end) ∙ kind)
     ∙ ap (λ w. entries_from 0 ns ks ws ++ entry_of (kind_of x) (numbers_of x) w ∷ []) (ap (λ k. get_or vs k (pos 1)) (sym end) ∙ weight)
     ∙ ap (λ y. entries_from 0 ns ks ws ++ y ∷ []) (entry_again x)

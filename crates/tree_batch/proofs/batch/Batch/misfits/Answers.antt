@@ -17,7 +17,7 @@ returns-then-misfits c =
     let x : Entry = c.entry.result in
     let lt : i < length xs = omega (arith, c.loop-index-test.true, c.len-index-end.ensures) in
     let bad : entry_misfits n c.vertices_after-after.result (get_or xs i x) ≡ true =
-        ap (entry_misfits n c.vertices_after-after.result) (sym (c.entry.ensures x)) ∙ sym c.misfits.ensures ∙ c.if-misfits.true in
+    ap (entry_misfits n c.vertices_after-after.result) (sym (c.entry.ensures x)) ∙ sym c.misfits.ensures ∙ c.if-misfits.true in
     sym (list_any_at (entry_misfits n c.vertices_after-after.result) xs i x lt bad) ∙ ap (λ m. list_any (entry_misfits n m) xs) c.vertices_after-after.ensures
 
 pub loop-index-preserved : goal.loop-index-preserved
@@ -28,7 +28,7 @@ loop-index-preserved c =
     let x : Entry = c.entry.result in
     let lt : i < length xs = omega (arith, c.loop-index-test.true, c.len-index-end.ensures) in
     let fits : entry_misfits n c.vertices_after-after.result (get_or xs i x) ≡ false =
-        ap (entry_misfits n c.vertices_after-after.result) (sym (c.entry.ensures x)) ∙ sym c.misfits.ensures ∙ c.if-misfits.false in
+    ap (entry_misfits n c.vertices_after-after.result) (sym (c.entry.ensures x)) ∙ sym c.misfits.ensures ∙ c.if-misfits.false in
     none_more (entry_misfits n c.vertices_after-after.result) xs i x lt c.loop-index.invariant fits
 
 pub returns : goal.returns

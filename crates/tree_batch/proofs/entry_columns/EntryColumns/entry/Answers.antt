@@ -10,8 +10,14 @@ use Rattle.tree_batch.proofs.entry_columns.EntryColumns.entry.Goals as goal
 
 pub prove-unreachable-requires : goal.prove-unreachable-requires
 prove-unreachable-requires c =
-    omega (arith, c.requires, c.if-prove.true, c.len.ensures,
-      columns_length 0 c.self.inside.numbers.items c.self.inside.kinds.items (weights_in c.self.inside.weights), ap length c.self.view_is)
+    omega (
+      arith,
+      c.requires,
+      c.if-prove.true,
+      c.len.ensures,
+      columns_length 0 c.self.inside.numbers.items c.self.inside.kinds.items (weights_in c.self.inside.weights),
+      ap length c.self.view_is,
+    )
 
 pub returns-in-Adds : goal.returns-in-Adds
 returns-in-Adds c = λ d.
