@@ -1,0 +1,9 @@
+pub mod Copies
+pub mod EndTests
+pub mod Additions
+pub mod Outside
+pub mod Parting
+pub mod Former
+pub mod Known
+pub mod Beside
+pub mod Meant
