@@ -1,7 +1,7 @@
 pub mod Rising
 pub mod AllEdges
 pub mod Deciding
-pub mod EntryColumns
+pub mod BatchColumns
 pub mod Decided
 pub mod UnitWeights
 pub mod CutAround

@@ -6,5 +6,5 @@ pub mod Digraph
 -- What the code is made of: no public contract cites these definitions.
 pub mod BlockCuts
 pub mod Forking
-pub mod EntryColumns
+pub mod BatchColumns
 pub mod Weights

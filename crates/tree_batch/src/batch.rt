@@ -6,8 +6,8 @@ ghost use Rattle.tree_batch.specs.declared.batch.Entry.{Entry};
 ghost use Rattle.tree_batch.specs.declared.error.GraphError.TheVariants.{NoMemory};
 ghost use Rattle.tree_batch.specs.Edge.{count_asked, entry_misfits, has_weight, misfits, named_by, vertices_after};
 
+use crate::batch_columns::BatchColumns;
 use crate::batch_iter::BatchIter;
-use crate::entry_columns::EntryColumns;
 use crate::error::GraphError;
 use crate::graph::MAX_VERTICES;
 use std::alloc::{AllocError, Global};
@@ -77,7 +77,7 @@ impl Entry {
 /// on that is not 1.
 #[derive(Debug)]
 pub struct Batch {
-    entries: EntryColumns,
+    entries: BatchColumns,
     /// The most vertices that an entry asks for, or 0.
     asked: u32,
     /// Whether some edge is added with a weight other than 1.
@@ -128,7 +128,7 @@ impl Batch {
         ensures { result ≡ [] }
     {
         Batch {
-            entries: EntryColumns::new(alloc),
+            entries: BatchColumns::new(alloc),
             asked: 0,
             weighted: false,
         }

@@ -21,10 +21,10 @@
 #![tactic(auto)]
 
 mod batch;
+mod batch_columns;
 mod batch_iter;
 mod cuts;
 mod edges;
-mod entry_columns;
 mod error;
 mod forked;
 mod graph;

@@ -5,7 +5,7 @@ use Rattle.std.proofs.lemmas.List.Folds.{list_any_at}
 use Rattle.std.specs.List.{list_any}
 use Rattle.tree_batch.specs.declared.batch.Entry.{Entry}
 use Rattle.tree_batch.specs.Edge.{entry_misfits, misfits}
-use Rattle.tree_batch.proofs.EntryColumns.{none_more}
+use Rattle.tree_batch.proofs.BatchColumns.{none_more}
 use Rattle.tree_batch.proofs.batch.Batch.misfits.Goals as goal
 
 pub returns-then-misfits : goal.returns-then-misfits

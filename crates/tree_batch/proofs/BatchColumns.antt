@@ -5,10 +5,10 @@ use Rattle.std.proofs.lemmas.List.Folds.{list_any-append}
 use Rattle.std.specs.List.{list_any}
 use Rattle.tree_batch.specs.declared.batch.Entry.{Entry}
 use Rattle.tree_batch.specs.declared.batch.Entry.TheVariants.{Add, Remove, Grow}
-use Rattle.tree_batch.specs.declared.entry_columns.EntryKind.{EntryKind}
-use Rattle.tree_batch.specs.declared.entry_columns.EntryKind.TheVariants.{Adds}
-use Rattle.tree_batch.specs.declared.entry_columns.EntryNumbers.{EntryNumbers}
-use Rattle.tree_batch.specs.inside.EntryColumns.{entries_from, entry_of, kind_of, numbers_of, weight_of}
+use Rattle.tree_batch.specs.declared.batch_columns.EntryKind.{EntryKind}
+use Rattle.tree_batch.specs.declared.batch_columns.EntryKind.TheVariants.{Adds}
+use Rattle.tree_batch.specs.declared.batch_columns.EntryNumbers.{EntryNumbers}
+use Rattle.tree_batch.specs.inside.BatchColumns.{entries_from, entry_of, kind_of, numbers_of, weight_of}
 
 -- how many there are
 pub columns_length : (i : ℕ) (ns : List EntryNumbers) (ks : List EntryKind) (ws : List ℤ) → length (entries_from i ns ks ws) ≡ length ns

@@ -1,11 +1,11 @@
--- Proofs of `push`, src/entry_columns.rt.
+-- Proofs of `push`, src/batch_columns.rt.
 use Rattle.std.proofs.Common.{◌≡◌, ◌++◌, ◌∷◌, [], List, ℤ, length, refl, ap, ◌∙◌, arith, rules, w64}
 use Rattle.std.proofs.lemmas.Int.{to_z-of_z}
-use Rattle.tree_batch.specs.declared.entry_columns.EntryNumbers.{EntryNumbers}
-use Rattle.tree_batch.specs.inside.EntryColumns.{entries_from, numbers_of}
+use Rattle.tree_batch.specs.declared.batch_columns.EntryNumbers.{EntryNumbers}
+use Rattle.tree_batch.specs.inside.BatchColumns.{entries_from, numbers_of}
 use Rattle.tree_batch.specs.inside.Weights.{weights_in}
-use Rattle.tree_batch.proofs.EntryColumns.{columns_kept, columns_pushed, on_err}
-use Rattle.tree_batch.proofs.entry_columns.EntryColumns.push.Goals as goal
+use Rattle.tree_batch.proofs.BatchColumns.{columns_kept, columns_pushed, on_err}
+use Rattle.tree_batch.proofs.batch_columns.BatchColumns.push.Goals as goal
 
 pub returns-in_err-put_kind-clause-err : goal.returns-in_err-put_kind-clause-err
 returns-in_err-put_kind-clause-err c =

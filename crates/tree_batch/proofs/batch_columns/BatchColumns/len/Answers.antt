@@ -1,8 +1,8 @@
--- Proofs of `len`, src/entry_columns.rt.
+-- Proofs of `len`, src/batch_columns.rt.
 use Rattle.std.proofs.Common.{length, ap, arith}
 use Rattle.tree_batch.specs.inside.Weights.{weights_in}
-use Rattle.tree_batch.proofs.EntryColumns.{columns_length}
-use Rattle.tree_batch.proofs.entry_columns.EntryColumns.len.Goals as goal
+use Rattle.tree_batch.proofs.BatchColumns.{columns_length}
+use Rattle.tree_batch.proofs.batch_columns.BatchColumns.len.Goals as goal
 
 pub returns : goal.returns
 returns c =

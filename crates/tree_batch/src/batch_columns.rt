@@ -2,8 +2,8 @@
 
 ghost use Rattle.std.specs.Prelude.{◌≡◌, ◌++◌, ◌<◌, [], ◌∷◌, ℕ, OnOk, OnErr, get_or, length};
 ghost use Rattle.tree_batch.specs.declared.batch.Entry.{Entry};
-ghost use Rattle.tree_batch.specs.declared.entry_columns.EntryKind.TheVariants.{Adds};
-ghost use Rattle.tree_batch.specs.inside.EntryColumns.{kind_of, numbers_of, weight_of};
+ghost use Rattle.tree_batch.specs.declared.batch_columns.EntryKind.TheVariants.{Adds};
+ghost use Rattle.tree_batch.specs.inside.BatchColumns.{kind_of, numbers_of, weight_of};
 
 use crate::batch::Entry;
 use crate::weights::Weights;
@@ -29,15 +29,15 @@ pub(crate) struct EntryNumbers {
 /// Entries in columns: their numbers, kinds and weights. An entry adds its edge if the kinds are over before it, and its weight
 /// is 1 if the weights are. Contracts see the list of the entries.
 #[derive(Debug)]
-pub(crate) struct EntryColumns {
+pub(crate) struct BatchColumns {
     numbers: Vec<EntryNumbers>,
     kinds: Vec<EntryKind>,
     weights: Weights,
 }
 
-impl Drop for EntryColumns {
+impl Drop for BatchColumns {
     fn drop(self) {
-        let EntryColumns {
+        let BatchColumns {
             numbers: _,
             kinds: _,
             weights: _,
@@ -45,10 +45,10 @@ impl Drop for EntryColumns {
     }
 }
 
-impl Model for EntryColumns {
+impl Model for BatchColumns {
     ghost use Rattle.std.specs.Prelude.{List};
     ghost use Rattle.tree_batch.specs.declared.batch.Entry.{Entry};
-    ghost use Rattle.tree_batch.specs.inside.EntryColumns.{entries_from};
+    ghost use Rattle.tree_batch.specs.inside.BatchColumns.{entries_from};
     ghost use Rattle.tree_batch.specs.inside.Weights.{weights_in};
 
     ghost Value = { List Entry };
@@ -56,12 +56,12 @@ impl Model for EntryColumns {
     ghost view = { λ c. entries_from 0 c.numbers.items c.kinds.items (weights_in c.weights) };
 }
 
-impl EntryColumns {
+impl BatchColumns {
     /// No entries. They take no memory.
-    pub(crate) fn new(alloc: Global) -> EntryColumns
+    pub(crate) fn new(alloc: Global) -> BatchColumns
         ensures { result ≡ [] }
     {
-        EntryColumns {
+        BatchColumns {
             numbers: Vec::new(alloc),
             kinds: Vec::new(alloc),
             weights: Weights::new(alloc),
@@ -105,13 +105,13 @@ impl EntryColumns {
     }
 }
 
-impl Clone for EntryColumns {
+impl Clone for BatchColumns {
     ghost is_clone = { λ columns copy. copy ≡ columns };
 
     /// The same entries.
-    fn clone(&self) -> Result<EntryColumns, AllocError> {
+    fn clone(&self) -> Result<BatchColumns, AllocError> {
         let alloc = *self.numbers.allocator();
-        Ok(EntryColumns {
+        Ok(BatchColumns {
             numbers: Vec::from_slice(alloc, &self.numbers)?,
             kinds: Vec::from_slice(alloc, &self.kinds)?,
             weights: self.weights.clone()?,

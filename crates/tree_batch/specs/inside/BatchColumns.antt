@@ -2,9 +2,9 @@
 use Rattle.std.specs.Prelude.{ℕ, suc, ℤ, pos, List, [], ◌∷◌, get_or}
 use Rattle.tree_batch.specs.declared.batch.Entry.{Entry}
 use Rattle.tree_batch.specs.declared.batch.Entry.TheVariants.{Add, Remove, Grow}
-use Rattle.tree_batch.specs.declared.entry_columns.EntryKind.{EntryKind}
-use Rattle.tree_batch.specs.declared.entry_columns.EntryKind.TheVariants.{Adds, Removes, Grows}
-use Rattle.tree_batch.specs.declared.entry_columns.EntryNumbers.{EntryNumbers}
+use Rattle.tree_batch.specs.declared.batch_columns.EntryKind.{EntryKind}
+use Rattle.tree_batch.specs.declared.batch_columns.EntryKind.TheVariants.{Adds, Removes, Grows}
+use Rattle.tree_batch.specs.declared.batch_columns.EntryNumbers.{EntryNumbers}
 
 -- what an entry does
 abbrev pub kind_of : Entry → EntryKind

@@ -1,12 +1,12 @@
--- Proofs of `entry`, src/entry_columns.rt.
+-- Proofs of `entry`, src/batch_columns.rt.
 use Rattle.std.proofs.Common.{◌≡◌, ◌<◌, ℤ, pos, List, length, get_or, refl, sym, ap, ◌∙◌, arith, rules, w64, to_z, of_z}
 use Rattle.std.proofs.lemmas.Int.{to_z-of_z}
-use Rattle.tree_batch.specs.declared.entry_columns.EntryKind.{EntryKind}
-use Rattle.tree_batch.specs.declared.entry_columns.EntryKind.TheVariants.{Adds, Removes, Grows}
-use Rattle.tree_batch.specs.declared.entry_columns.EntryNumbers.{EntryNumbers}
+use Rattle.tree_batch.specs.declared.batch_columns.EntryKind.{EntryKind}
+use Rattle.tree_batch.specs.declared.batch_columns.EntryKind.TheVariants.{Adds, Removes, Grows}
+use Rattle.tree_batch.specs.declared.batch_columns.EntryNumbers.{EntryNumbers}
 use Rattle.tree_batch.specs.inside.Weights.{weights_in}
-use Rattle.tree_batch.proofs.EntryColumns.{columns_length, entry_is}
-use Rattle.tree_batch.proofs.entry_columns.EntryColumns.entry.Goals as goal
+use Rattle.tree_batch.proofs.BatchColumns.{columns_length, entry_is}
+use Rattle.tree_batch.proofs.batch_columns.BatchColumns.entry.Goals as goal
 
 pub prove-unreachable-requires : goal.prove-unreachable-requires
 prove-unreachable-requires c =
