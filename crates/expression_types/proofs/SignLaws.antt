@@ -17,7 +17,7 @@ use Rattle.expression_types.specs.Expression.{unary_value, primary_value}
 use Rattle.expression_types.specs.ScopeTree.{ScopeTree}
 use Rattle.expression_types.proofs.Steps.{bind-sure, bind-bind}
 use Rattle.expression_types.specs.inside.Signs.{signs_value, all_minus, all_not}
-use Rattle.expression_types.specs.ValueTree.{ValueTree, Integer, Condition, Vertex, Set, ErrorValue, is_error, is_condition, as_integer, as_condition}
+use Rattle.expression_types.specs.ValueTree.{ValueTree, Integer, Condition, Vertex, Set, ErrorValue, is_error, is_condition, as_integer}
 
 -- one sign more
 abbrev signed : ℕ → Prefix → WithFaults ValueTree → WithFaults ValueTree
@@ -85,22 +85,13 @@ error_stays at first_fault signs (Vertex p) is = absurd (false≢true is)
 error_stays at first_fault signs (Set slot) is = absurd (false≢true is)
 error_stays at first_fault signs ErrorValue is = ap (outcome first_fault) (on_error at signs)
 
-pub condition_inverted : (at : ℕ) (first_fault : Option Fault) (signs : List Prefix) (v : ValueTree) (c : BoolExpressionTree) → Some c ≡ as_condition v → all_not signs ≡ true
-    → outcome first_fault (signs_value at signs v) ≡ (Condition (inverted (length signs) c), first_fault)
-condition_inverted at first_fault signs (Integer e) c is all = cc
-condition_inverted at first_fault signs (Condition d) c is all =
-    ap (outcome first_fault) (nots at signs d all) ∙ ap (λ d. (Condition (inverted (length signs) d), first_fault)) (let h : d ≡ c = cc in h)
-condition_inverted at first_fault signs (Vertex p) c is all = cc
-condition_inverted at first_fault signs (Set slot) c is all = cc
-condition_inverted at first_fault signs ErrorValue c is all = cc
+pub condition_inverted : (at : ℕ) (first_fault : Option Fault) (signs : List Prefix) (c : BoolExpressionTree) → all_not signs ≡ true
+    → outcome first_fault (signs_value at signs (Condition c)) ≡ (Condition (inverted (length signs) c), first_fault)
+condition_inverted at first_fault signs c all = ap (outcome first_fault) (nots at signs c all)
 
-pub condition_misses : (at : ℕ) (first_fault : Option Fault) (signs : List Prefix) (v : ValueTree) (c : BoolExpressionTree) → Some c ≡ as_condition v → all_not signs ≡ false
-    → outcome first_fault (signs_value at signs v) ≡ (ErrorValue, wrong at first_fault)
-condition_misses at first_fault signs (Integer e) c is some = cc
-condition_misses at first_fault signs (Condition d) c is some = ap (outcome first_fault) (not_nots at signs d some)
-condition_misses at first_fault signs (Vertex p) c is some = cc
-condition_misses at first_fault signs (Set slot) c is some = cc
-condition_misses at first_fault signs ErrorValue c is some = cc
+pub condition_misses : (at : ℕ) (first_fault : Option Fault) (signs : List Prefix) (c : BoolExpressionTree) → all_not signs ≡ false
+    → outcome first_fault (signs_value at signs (Condition c)) ≡ (ErrorValue, wrong at first_fault)
+condition_misses at first_fault signs c some = ap (outcome first_fault) (not_nots at signs c some)
 
 pub integer_negated : (at : ℕ) (first_fault : Option Fault) (signs : List Prefix) (v : ValueTree) (e : IntExpressionTree) → signs ≢ [] → Some e ≡ as_integer v → all_minus signs ≡ true
     → outcome first_fault (signs_value at signs v) ≡ (Integer (negated (length signs) e), first_fault)

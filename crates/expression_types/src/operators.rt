@@ -1,11 +1,12 @@
 //! Typing of operators: what signs, relations, rows and indexes make of typed operands.
-ghost use Rattle.std.specs.Prelude.{◌≡◌, Some, false, IfOk, IsTrue};
+ghost use Rattle.std.specs.Prelude.{◌≡◌, Some, false, IfOk};
 ghost use Rattle.std.specs.Option.{option_map};
+ghost use Rattle.typed_tree.specs.BoolExpressionTree.{bool_expression_tree};
 ghost use Rattle.expression_types.specs.Faults.{ReportsFaults, outcome, earlier};
 ghost use Rattle.expression_types.specs.Expression.{as_vector, entry_of};
 ghost use Rattle.expression_types.specs.Operators.{addition_operator, compared_value, entry_value, equated_value, function_entry, given_or_fault, main_entry, multiplied, related_value};
 ghost use Rattle.expression_types.specs.inside.Signs.{all_minus, all_not, signs_value};
-ghost use Rattle.expression_types.specs.ValueTree.{ErrorValue, is_condition, is_error, value_tree};
+ghost use Rattle.expression_types.specs.ValueTree.{Condition, ErrorValue, is_error, value_tree};
 
 use crate::expression::vector_of;
 use crate::fault::{Fault, TypeRule, note};
@@ -147,9 +148,10 @@ pub(crate) fn after_signs(
     if value.is_error() {
         return Ok(value);
     }
-    if value.is_condition() {
-        return inverted(alloc, signs, value, at, first_fault);
-    }
+    let value = match value.try_into_condition() {
+        Ok(c) => return inverted(alloc, signs, c, at, first_fault),
+        Err(value) => value,
+    };
     let Some(e) = value.into_integer() else {
         return Ok(fault(at, TypeRule::WrongType, first_fault));
     };
@@ -164,16 +166,12 @@ pub(crate) fn after_signs(
 fn inverted(
     alloc: Global,
     signs: &[Prefix],
-    value: Value,
+    c: BoolExpression,
     at: usize,
     first_fault: &mut Option<Fault>,
 ) -> Result<Value, AllocError>
-    requires { IsTrue (is_condition (value_tree value)) }
-    ensures { ReportsFaults value_tree first_fault.old first_fault.new result (signs_value at signs.now (value_tree value)) }
+    ensures { ReportsFaults value_tree first_fault.old first_fault.new result (signs_value at signs.now (Condition (bool_expression_tree c))) }
 {
-    let Some(c) = value.into_condition() else {
-        unreachable!()
-    };
     if !are_all_not(signs) {
         return Ok(fault(at, TypeRule::WrongType, first_fault));
     }

@@ -1,9 +1,9 @@
 //! Values: typed expressions, and those that names have alone.
-ghost use Rattle.std.specs.Prelude.{◌≡◌, is_some};
+ghost use Rattle.std.specs.Prelude.{◌≡◌, IfErr, IfOk, false, is_some};
 ghost use Rattle.std.specs.Option.{option_map};
 ghost use Rattle.typed_tree.specs.BoolExpressionTree.{bool_expression_tree};
 ghost use Rattle.typed_tree.specs.IntExpressionTree.{int_expression_tree};
-ghost use Rattle.expression_types.specs.ValueTree.{as_condition, as_integer, as_set, as_vertex, is_condition as condition, is_error as error, entity_set, named_value, named_vector, reads_entry as entry_is_read, value_tree};
+ghost use Rattle.expression_types.specs.ValueTree.{Condition, as_condition, as_integer, as_set, as_vertex, is_condition as condition, is_error as error, entity_set, named_value, named_vector, reads_entry as entry_is_read, value_tree};
 ghost use Rattle.expression_types.specs.inside.ValueTree.{operands_read_entry};
 
 use crate::scope::Entity;
@@ -79,6 +79,17 @@ impl Value {
             Value::Integer(e) => Some(e),
             Value::Vertex(at) => Some(IntExpression::Parameter(at)),
             Value::Condition(_) | Value::Set(_) | Value::Error => None,
+        }
+    }
+
+    /// The condition that the value is. If it is none, the value itself is the error.
+    pub(crate) fn try_into_condition(self) -> Result<BoolExpression, Value>
+        ensures condition { IfOk result (λ c. value_tree self ≡ Condition (bool_expression_tree c)) }
+        ensures other { IfErr result (λ v. (value_tree v ≡ value_tree self) × (condition (value_tree v) ≡ false)) }
+    {
+        match self {
+            Value::Condition(c) => Ok(c),
+            other => Err(other),
         }
     }
 

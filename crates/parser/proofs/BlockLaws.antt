@@ -10,12 +10,13 @@ use Rattle.syntax.specs.Terminals.{Terminal, Identifier, LeadingKeyword, OfKeywo
 use Rattle.syntax.specs.ExpressionReading.{Reader}
 use Rattle.syntax.specs.Nesting.{◌>>=◌}
 use Rattle.syntax.specs.SourceTrees.{ExpressionTree, BlockTree, StatementKindTree, While, For, If, IfElse, Then}
+use Rattle.syntax.specs.declared.statement.ForLoop.{ForLoop, ForLoop', out-ForLoop, roll-ForLoop}
 use Rattle.syntax.specs.declared.statement.Statement.{Statement}
 use Rattle.syntax.specs.declared.statement.Action.{Row_of-Statement, end_of-Statement, more_of-Statement, items-the_row-Statement}
 use Rattle.syntax.specs.declared.statement.Action.TheViews as views
 use Rattle.syntax.specs.declared.statement.Action.TheViews.{the_lemmas}
 use Rattle.syntax.proofs.Loops.{Goes, goes_end, goes_fails}
-use Rattle.syntax.specs.SourceViews.{statement_kind_tree, rows_tree, block_tree}
+use Rattle.syntax.specs.SourceViews.{statement_kind_tree, for_loop_tree, rows_tree, block_tree}
 use Rattle.syntax.specs.inside.SourceViews.{statement_of}
 use Rattle.syntax.specs.SourceReading.{expression, name_reader, after_terminal, after_terminals, closed_by, else_by, action_by, block_by, block_at, block_from, next_statement, statement_by}
 use Rattle.syntax.specs.SourceReading.{begins_statement, where_begins}
@@ -31,9 +32,13 @@ rows_tree-items (more_of-Statement label action rest) = ap (Then label (statemen
 pub statement_kind_tree-While : (at : ℕ) (test : ExpressionTree) (body : Vec Statement) → statement_kind_tree (views.While at test body) ≡ While at test (block_tree body.items)
 statement_kind_tree-While at test body = search (rules, the_lemmas, rows_tree-items)
 
-pub statement_kind_tree-For : (at : ℕ) (name : Identifier) (first last : ExpressionTree) (body : Vec Statement)
-    → statement_kind_tree (views.For at name first last body) ≡ For at name first last (block_tree body.items)
-statement_kind_tree-For at name first last body = search (rules, the_lemmas, rows_tree-items)
+pub for_loop_tree-block : (f : ForLoop) → for_loop_tree f
+    ≡ For (out-ForLoop f).at (out-ForLoop f).name (out-ForLoop f).first (out-ForLoop f).limit (block_tree (out-ForLoop f).body.items)
+for_loop_tree-block (ForLoop' at name first limit m body) = search (rules, the_lemmas, rows_tree-items)
+
+pub for_loop_tree-rolled : (at : ℕ) (name : Identifier) (first limit : ExpressionTree) (body : Vec Statement)
+    → for_loop_tree (roll-ForLoop (record { at = at; name = name; first = first; limit = limit; body = body })) ≡ For at name first limit (block_tree body.items)
+for_loop_tree-rolled at name first limit body = search (rules, the_lemmas, rows_tree-items)
 
 pub statement_kind_tree-If : (at : ℕ) (test : ExpressionTree) (body : Vec Statement) → statement_kind_tree (views.If at test body) ≡ If at test (block_tree body.items)
 statement_kind_tree-If at test body = search (rules, the_lemmas, rows_tree-items)

@@ -4,7 +4,7 @@ ghost use Rattle.syntax.specs.Terminals.{OfKeyword};
 ghost use Rattle.parser.specs.inside.Readers.{terminals, Gives};
 ghost use Rattle.syntax.specs.SourceTrees.{While, For, If, IfElse};
 ghost use Rattle.syntax.specs.SourceReading.{block_at, statement_by, begins_statement as begins_statement_at, after_terminal};
-ghost use Rattle.syntax.specs.SourceViews.{statement_kind_tree, block_tree};
+ghost use Rattle.syntax.specs.SourceViews.{statement_kind_tree, simple_action_tree, block_tree};
 ghost use Rattle.syntax.specs.inside.SourceViews.{statement_of};
 ghost use Rattle.parser.specs.inside.Blocks.{action_at, block_in, declared_at, printed_at, range_at, to_end_by, otherwise_by, statement_keyword_of, opened_by};
 ghost use Rattle.parser.specs.inside.Views.{statements_tree};
@@ -16,7 +16,7 @@ use crate::syntax_error::SyntaxError;
 use crate::types::typed;
 use lexer::{Keyword, Symbol, TokenKind};
 use std::alloc::Global;
-use syntax::{Action, Expression, Name, Statement};
+use syntax::{Action, Expression, ForLoop, Name, SimpleAction, Statement};
 
 /// What a statement begins with that begins with a keyword.
 #[derive(Clone, Copy)]
@@ -109,7 +109,8 @@ fn action(
     match token.kind {
         TokenKind::Name => {
             let name = Name::of(alloc, cursor.bytes(token.span), at)?;
-            named(alloc, name, after)
+            let (action, behind) = named(alloc, name, after)?;
+            Ok((Action::Simple(action), behind))
         }
         TokenKind::Keyword(keyword) => match begun_by(keyword) {
             Some(statement_keyword) => opened(alloc, statement_keyword, at, after, depth),
@@ -132,11 +133,17 @@ fn opened(
     ensures shorter { IfOk result (λ x. length (terminals x.1) ≤ length (terminals cursor.entry)) }
 {
     match statement_keyword {
-        StatementKeyword::Var => declared(alloc, at, cursor),
+        StatementKeyword::Var => {
+            let (action, behind) = declared(alloc, at, cursor)?;
+            Ok((Action::Simple(action), behind))
+        }
         StatementKeyword::While => while_loop(alloc, at, cursor, depth),
         StatementKeyword::For => for_loop(alloc, at, cursor, depth),
         StatementKeyword::If => choice(alloc, at, cursor, depth),
-        StatementKeyword::Print => printed(alloc, at, cursor),
+        StatementKeyword::Print => {
+            let (action, behind) = printed(alloc, at, cursor)?;
+            Ok((Action::Simple(action), behind))
+        }
     }
 }
 
@@ -145,13 +152,13 @@ fn declared(
     alloc: Global,
     at: usize,
     cursor: Cursor<'_>,
-) -> Result<(Action, Cursor<'_>), SyntaxError>
-    ensures reads { Gives statement_kind_tree result (declared_at at (terminals cursor.entry)) }
+) -> Result<(SimpleAction, Cursor<'_>), SyntaxError>
+    ensures reads { Gives simple_action_tree result (declared_at at (terminals cursor.entry)) }
     ensures shorter { IfOk result (λ x. length (terminals x.1) ≤ length (terminals cursor.entry)) }
 {
     let (variable, assign) = typed(alloc, cursor)?;
     let (initial, behind) = assigned(alloc, assign)?;
-    let action = Action::Declare {
+    let action = SimpleAction::Declare {
         at,
         variable,
         initial,
@@ -164,12 +171,12 @@ fn printed(
     alloc: Global,
     at: usize,
     cursor: Cursor<'_>,
-) -> Result<(Action, Cursor<'_>), SyntaxError>
-    ensures reads { Gives statement_kind_tree result (printed_at at (terminals cursor.entry)) }
+) -> Result<(SimpleAction, Cursor<'_>), SyntaxError>
+    ensures reads { Gives simple_action_tree result (printed_at at (terminals cursor.entry)) }
     ensures shorter { IfOk result (λ x. length (terminals x.1) ≤ length (terminals cursor.entry)) }
 {
     let (value, behind) = ended(alloc, cursor)?;
-    Ok((Action::Print { at, value }, behind))
+    Ok((SimpleAction::Print { at, value }, behind))
 }
 
 /// What is after `while`.
@@ -235,13 +242,13 @@ fn for_action(
 ) -> Action
     ensures { statement_kind_tree result ≡ For at name first limit (block_tree body.items) }
 {
-    Action::For {
+    Action::For(ForLoop {
         at,
         name,
         first,
         limit,
         body,
-    }
+    })
 }
 
 /// What is after `if`.

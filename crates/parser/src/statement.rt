@@ -1,10 +1,10 @@
-//! Statements.
+//! Statements that begin with a name.
 ghost use Rattle.std.specs.Prelude.{◌≤◌, [], ◌∷◌, length, IfOk, None, Some};
 ghost use Rattle.syntax.specs.Terminals.{OfKeyword, OfSymbol};
 ghost use Rattle.parser.specs.inside.Readers.{terminals, Gives};
 ghost use Rattle.parser.specs.inside.Fronts.{applied_by, applied_function_at};
 ghost use Rattle.syntax.specs.SourceReading.{reduction_at, ended_at, read_entry_at, entry_by, after_terminal, after_terminals, method_by, added_at, read_reduction_at, named_action};
-ghost use Rattle.syntax.specs.SourceViews.{statement_kind_tree};
+ghost use Rattle.syntax.specs.SourceViews.{simple_action_tree};
 
 use crate::cursor::Cursor;
 use crate::initial::{assigned, ends};
@@ -12,7 +12,7 @@ use crate::syntax_error::SyntaxError;
 use apply_options::Reduction;
 use lexer::{Keyword, Symbol, TokenKind};
 use std::alloc::Global;
-use syntax::{Action, Expression, Name};
+use syntax::{Expression, Name, SimpleAction};
 
 /// `.apply`
 static APPLY: [TokenKind; 2] = [
@@ -60,13 +60,13 @@ pub(crate) fn named(
     alloc: Global,
     name: Name,
     cursor: Cursor<'_>,
-) -> Result<(Action, Cursor<'_>), SyntaxError>
-    ensures reads { Gives statement_kind_tree result (named_action name (terminals cursor.entry)) }
+) -> Result<(SimpleAction, Cursor<'_>), SyntaxError>
+    ensures reads { Gives simple_action_tree result (named_action name (terminals cursor.entry)) }
     ensures shorter { IfOk result (λ x. length (terminals x.1) ≤ length (terminals cursor.entry)) }
 {
     if let Some(_) = cursor.after_symbol(Symbol::Assign) {
         let (value, behind) = assigned(alloc, cursor)?;
-        return Ok((Action::Assign { name, value }, behind));
+        return Ok((SimpleAction::Assign { name, value }, behind));
     }
     if let Some(index) = cursor.after_symbol(Symbol::OpenBracket) {
         return entry(alloc, name, index);
@@ -82,13 +82,13 @@ fn reduced(
     alloc: Global,
     name: Name,
     cursor: Cursor<'_>,
-) -> Result<(Action, Cursor<'_>), SyntaxError>
-    ensures reads { Gives statement_kind_tree result (read_reduction_at name (terminals cursor.entry)) }
+) -> Result<(SimpleAction, Cursor<'_>), SyntaxError>
+    ensures reads { Gives simple_action_tree result (read_reduction_at name (terminals cursor.entry)) }
     ensures shorter { IfOk result (λ x. length (terminals x.1) ≤ length (terminals cursor.entry)) }
 {
     let (reduction, rest) = reduction(cursor)?;
     let (value, behind) = ended(alloc, rest)?;
-    let action = Action::Reduce {
+    let action = SimpleAction::Reduce {
         name,
         reduction,
         value,
@@ -101,8 +101,8 @@ fn entry(
     alloc: Global,
     vector: Name,
     cursor: Cursor<'_>,
-) -> Result<(Action, Cursor<'_>), SyntaxError>
-    ensures reads { Gives statement_kind_tree result (read_entry_at vector (terminals cursor.entry)) }
+) -> Result<(SimpleAction, Cursor<'_>), SyntaxError>
+    ensures reads { Gives simple_action_tree result (read_entry_at vector (terminals cursor.entry)) }
     ensures shorter { IfOk result (λ x. length (terminals x.1) ≤ length (terminals cursor.entry)) }
 {
     let (index, close) = cursor.expression(alloc)?;
@@ -116,8 +116,8 @@ fn entry_value(
     vector: Name,
     index: Expression,
     cursor: Cursor<'_>,
-) -> Result<(Action, Cursor<'_>), SyntaxError>
-    ensures reads { Gives statement_kind_tree result
+) -> Result<(SimpleAction, Cursor<'_>), SyntaxError>
+    ensures reads { Gives simple_action_tree result
         (entry_by vector index (terminals cursor.entry) (after_terminal (OfSymbol Symbol.Assign) (terminals cursor.entry))) }
     ensures shorter { IfOk result (λ x. length (terminals x.1) ≤ length (terminals cursor.entry)) }
 {
@@ -133,12 +133,12 @@ fn entry_assigned(
     vector: Name,
     index: Expression,
     cursor: Cursor<'_>,
-) -> Result<(Action, Cursor<'_>), SyntaxError>
-    ensures reads { Gives statement_kind_tree result (entry_by vector index (terminals cursor.entry) (Some (terminals cursor.entry))) }
+) -> Result<(SimpleAction, Cursor<'_>), SyntaxError>
+    ensures reads { Gives simple_action_tree result (entry_by vector index (terminals cursor.entry) (Some (terminals cursor.entry))) }
     ensures shorter { IfOk result (λ x. length (terminals x.1) ≤ length (terminals cursor.entry)) }
 {
     let (value, behind) = ended(alloc, cursor)?;
-    let action = Action::SetEntry {
+    let action = SimpleAction::SetEntry {
         vector,
         index,
         value,
@@ -152,13 +152,13 @@ fn entry_reduced(
     vector: Name,
     index: Expression,
     cursor: Cursor<'_>,
-) -> Result<(Action, Cursor<'_>), SyntaxError>
-    ensures reads { Gives statement_kind_tree result (entry_by vector index (terminals cursor.entry) None) }
+) -> Result<(SimpleAction, Cursor<'_>), SyntaxError>
+    ensures reads { Gives simple_action_tree result (entry_by vector index (terminals cursor.entry) None) }
     ensures shorter { IfOk result (λ x. length (terminals x.1) ≤ length (terminals cursor.entry)) }
 {
     let (reduction, rest) = reduction(cursor)?;
     let (value, behind) = ended(alloc, rest)?;
-    let action = Action::ReduceEntry {
+    let action = SimpleAction::ReduceEntry {
         vector,
         index,
         reduction,
@@ -172,8 +172,8 @@ fn method(
     alloc: Global,
     name: Name,
     cursor: Cursor<'_>,
-) -> Result<(Action, Cursor<'_>), SyntaxError>
-    ensures reads { Gives statement_kind_tree result
+) -> Result<(SimpleAction, Cursor<'_>), SyntaxError>
+    ensures reads { Gives simple_action_tree result
         (method_by name (terminals cursor.entry) (after_terminals (OfSymbol Symbol.Dot ∷ OfKeyword Keyword.AddVertex ∷ []) (terminals cursor.entry))) }
     ensures shorter { IfOk result (λ x. length (terminals x.1) ≤ length (terminals cursor.entry)) }
 {
@@ -184,14 +184,18 @@ fn method(
 }
 
 /// The vertex that is added to a set, and what stands around it, from after `addVertex`.
-fn added(alloc: Global, set: Name, cursor: Cursor<'_>) -> Result<(Action, Cursor<'_>), SyntaxError>
-    ensures reads { Gives statement_kind_tree result (added_at set (terminals cursor.entry)) }
+fn added(
+    alloc: Global,
+    set: Name,
+    cursor: Cursor<'_>,
+) -> Result<(SimpleAction, Cursor<'_>), SyntaxError>
+    ensures reads { Gives simple_action_tree result (added_at set (terminals cursor.entry)) }
     ensures shorter { IfOk result (λ x. length (terminals x.1) ≤ length (terminals cursor.entry)) }
 {
     let inside = cursor.expect_symbol(Symbol::OpenParenthesis)?;
     let (vertex, close) = inside.expression(alloc)?;
     let behind = close.expect_all(&CLOSE_CALL)?;
-    Ok((Action::AddVertex { set, vertex }, behind))
+    Ok((SimpleAction::AddVertex { set, vertex }, behind))
 }
 
 /// The ends and the function of an apply, from after what it is called on.
@@ -199,13 +203,13 @@ fn applied(
     alloc: Global,
     target: Name,
     cursor: Cursor<'_>,
-) -> Result<(Action, Cursor<'_>), SyntaxError>
-    ensures reads { Gives statement_kind_tree result (applied_by target (terminals cursor.entry)) }
+) -> Result<(SimpleAction, Cursor<'_>), SyntaxError>
+    ensures reads { Gives simple_action_tree result (applied_by target (terminals cursor.entry)) }
     ensures shorter { IfOk result (λ x. length (terminals x.1) ≤ length (terminals cursor.entry)) }
 {
     let (ends, dot) = ends(alloc, cursor)?;
     let (function, behind) = applied_function(alloc, dot)?;
-    let action = Action::Apply {
+    let action = SimpleAction::Apply {
         target,
         ends,
         function,

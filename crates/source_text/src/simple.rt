@@ -1,12 +1,12 @@
-//! Simple statements: those that hold no block.
+//! Statements without a block.
 ghost use Rattle.std.specs.Prelude.{ℕ, ◌++◌, ◌∷◌, OnOk};
 ghost use Rattle.lexer.specs.declared.symbol.Symbol.TheVariants as symbol;
 ghost use Rattle.syntax.specs.Terminals.{OfSymbol, Name as terminal_name};
 ghost use Rattle.syntax.specs.ExpressionSpelling.{expression_terminals};
 ghost use Rattle.syntax.specs.SourceSpelling.{action_before, reduction_terminal};
 ghost use Rattle.syntax.specs.SourceTrees.{AddVertex, Apply, Assign, Declare, Print, Reduce, ReduceEntry, SetEntry};
-ghost use Rattle.syntax.specs.SourceViews.{statement_kind_tree, ends_tree, initial_tree, parameter_tree};
-ghost use Rattle.source_text.specs.inside.Written.{IsSimple, Puts};
+ghost use Rattle.syntax.specs.SourceViews.{simple_action_tree, ends_tree, initial_tree, parameter_tree};
+ghost use Rattle.source_text.specs.inside.Written.{Puts};
 
 use crate::expression::put_expression;
 use crate::initial::{put_argument, put_assigned, put_ended, put_ends, put_method, put_parameter};
@@ -14,44 +14,42 @@ use crate::terminals::{put_keyword, put_name, put_symbol};
 use apply_options::Reduction;
 use lexer::{Keyword, Symbol};
 use std::alloc::AllocError;
-use syntax::{Action, Ends, Expression, Initial, Name, Parameter};
+use syntax::{Ends, Expression, Initial, Name, Parameter, SimpleAction};
 
-/// Puts a simple statement down.
-pub(crate) fn put_simple(out: &mut Vec<u8>, action: &Action) -> Result<(), AllocError>
-    requires { IsSimple (statement_kind_tree action.now) }
-    ensures { OnOk result (Puts (action_before (statement_kind_tree action.now)) out.old.items out.new.items) }
+/// Puts a statement without a block down.
+pub(crate) fn put_simple(out: &mut Vec<u8>, action: &SimpleAction) -> Result<(), AllocError>
+    ensures { OnOk result (Puts (action_before (simple_action_tree action.now)) out.old.items out.new.items) }
 {
     match action {
-        Action::Declare {
+        SimpleAction::Declare {
             variable,
             initial,
             ..
         } => put_declare(out, variable, initial),
-        Action::Print { value, .. } => put_print(out, value),
-        Action::Assign { name, value } => put_assign(out, name, value),
-        Action::Reduce {
+        SimpleAction::Print { value, .. } => put_print(out, value),
+        SimpleAction::Assign { name, value } => put_assign(out, name, value),
+        SimpleAction::Reduce {
             name,
             reduction,
             value,
         } => put_reduce(out, name, *reduction, value),
-        Action::SetEntry {
+        SimpleAction::SetEntry {
             vector,
             index,
             value,
         } => put_set_entry(out, vector, index, value),
-        Action::ReduceEntry {
+        SimpleAction::ReduceEntry {
             vector,
             index,
             reduction,
             value,
         } => put_reduce_entry(out, vector, index, *reduction, value),
-        Action::AddVertex { set, vertex } => put_add_vertex(out, set, vertex),
-        Action::Apply {
+        SimpleAction::AddVertex { set, vertex } => put_add_vertex(out, set, vertex),
+        SimpleAction::Apply {
             target,
             ends,
             function,
         } => put_apply(out, target, ends, function),
-        _ => unreachable!(),
     }
 }
 

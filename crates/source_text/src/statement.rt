@@ -40,19 +40,14 @@ fn put_action(out: &mut Vec<u8>, action: &Action) -> Result<(), AllocError>
     ensures { OnOk result (Puts (action_before (statement_kind_tree action.now)) out.old.items out.new.items) }
 {
     match action {
+        Action::Simple(action) => put_simple(out, action),
         Action::While { test, body, .. } => {
             put_test(out, Keyword::While, test)?;
             put_to_end(out, body)
         }
-        Action::For {
-            name,
-            first,
-            limit,
-            body,
-            ..
-        } => {
-            put_range(out, name, first, limit)?;
-            put_to_end(out, body)
+        Action::For(for_loop) => {
+            put_range(out, &for_loop.name, &for_loop.first, &for_loop.limit)?;
+            put_to_end(out, &for_loop.body)
         }
         Action::If { test, body, .. } => {
             put_test(out, Keyword::If, test)?;
@@ -69,7 +64,6 @@ fn put_action(out: &mut Vec<u8>, action: &Action) -> Result<(), AllocError>
             put_keyword(out, Keyword::Else)?;
             put_to_end(out, otherwise)
         }
-        _ => put_simple(out, action),
     }
 }
 

@@ -8,13 +8,16 @@ use Rattle.syntax.specs.declared.schedule.Chain.{Chain}
 use Rattle.syntax.specs.declared.schedule.QuotedText.{QuotedText}
 use Rattle.syntax.specs.declared.initial.Ends.{Ends}
 use Rattle.syntax.specs.declared.initial.Initial.{Initial}
+use Rattle.syntax.specs.declared.simple_action.SimpleAction.{SimpleAction}
 use Rattle.syntax.specs.declared.statement.Action.{Action}
+use Rattle.syntax.specs.declared.statement.ForLoop.{ForLoop, ForLoop'}
 use Rattle.syntax.specs.declared.statement.Statement.{Statement}
 use Rattle.syntax.specs.SourceTrees.{EndsTree, InitialTree, NewSet, Load, Vertices, OutDegrees, Filter, ApplyModified, Value, StatementKindTree, Declare, While}
 use Rattle.syntax.specs.SourceTrees.{For, If, IfElse, Print, Assign, Reduce, SetEntry, ReduceEntry, AddVertex, Apply, BlockTree, Empty, Then, ParameterTree}
 use Rattle.syntax.specs.SourceTrees.{DeclarationTree, Constant, Function, CallTree, ChainTree, SourceTree}
 use Rattle.syntax.specs.declared.declaration.Declaration.TheVariants as declaration
 use Rattle.syntax.specs.declared.initial.Initial.TheVariants as initial
+use Rattle.syntax.specs.declared.simple_action.SimpleAction.TheVariants as simple
 use Rattle.syntax.specs.declared.statement.Action.TheVariants as action
 use Rattle.syntax.specs.declared.statement.Action as row
 
@@ -33,20 +36,27 @@ initial_tree (initial.Filter set test) = Filter set test
 initial_tree (initial.ApplyModified edges ends function vector) = ApplyModified edges (ends_tree ends) function vector
 initial_tree (initial.Value e) = Value e
 
+-- the tree of a statement without a block
+abbrev pub simple_action_tree : SimpleAction → StatementKindTree
+simple_action_tree (simple.Declare at variable initial) = Declare at (parameter_tree variable) (initial_tree initial)
+simple_action_tree (simple.Print at e) = Print at e
+simple_action_tree (simple.Assign name value) = Assign name (initial_tree value)
+simple_action_tree (simple.Reduce name reduction value) = Reduce name reduction value
+simple_action_tree (simple.SetEntry vector index value) = SetEntry vector index value
+simple_action_tree (simple.ReduceEntry vector index reduction value) = ReduceEntry vector index reduction value
+simple_action_tree (simple.AddVertex set vertex) = AddVertex set vertex
+simple_action_tree (simple.Apply target ends function) = Apply target (ends_tree ends) function
+
 abbrev mutual
   pub statement_kind_tree : Action → StatementKindTree
-  statement_kind_tree (action.Declare at variable initial) = Declare at (parameter_tree variable) (initial_tree initial)
+  statement_kind_tree (action.Simple a) = simple_action_tree a
   statement_kind_tree (action.While' at test m body) = While at test (rows_tree body)
-  statement_kind_tree (action.For' at name first last m body) = For at name first last (rows_tree body)
+  statement_kind_tree (action.For loop) = for_loop_tree loop
   statement_kind_tree (action.If' at test m body) = If at test (rows_tree body)
   statement_kind_tree (action.IfElse' at test m body n otherwise) = IfElse at test (rows_tree body) (rows_tree otherwise)
-  statement_kind_tree (action.Print at e) = Print at e
-  statement_kind_tree (action.Assign name value) = Assign name (initial_tree value)
-  statement_kind_tree (action.Reduce name reduction value) = Reduce name reduction value
-  statement_kind_tree (action.SetEntry vector index value) = SetEntry vector index value
-  statement_kind_tree (action.ReduceEntry vector index reduction value) = ReduceEntry vector index reduction value
-  statement_kind_tree (action.AddVertex set vertex) = AddVertex set vertex
-  statement_kind_tree (action.Apply target ends function) = Apply target (ends_tree ends) function
+
+  pub for_loop_tree : ForLoop → StatementKindTree
+  for_loop_tree (ForLoop' at name first last m body) = For at name first last (rows_tree body)
 
   pub rows_tree : {m : _} → row.Row_of-Statement m → BlockTree
   rows_tree row.end_of-Statement = Empty

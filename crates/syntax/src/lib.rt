@@ -15,6 +15,9 @@
 //! `terminals_have_one_tree`, `beginnings_are_one`, `reading_is_exact` and `what_ends_goes_no_further` are those of
 //! expressions. They do nothing when called. [`first_too_deep`] finds where a text nests deeper than the limit.
 //!
+//! Statements without a block have a type of their own, [`SimpleAction`]; a tree has all kinds of statements in one
+//! type.
+//!
 //! A tree keeps what makes its terminals its own: parentheses, labels, an absent `else` apart from an empty
 //! one, the operators of one level as one list.
 //!
@@ -30,6 +33,7 @@ mod name;
 mod nesting;
 mod operators;
 mod schedule;
+mod simple_action;
 mod statement;
 
 pub use declaration::{Declaration, DeclaredType, Parameter, Source};
@@ -43,4 +47,5 @@ pub use name::Name;
 pub use nesting::{NESTING_LIMIT, first_too_deep};
 pub use operators::{Addition, Multiplication, Prefix, Relation};
 pub use schedule::{Call, Chain, QuotedText};
-pub use statement::{Action, Statement};
+pub use simple_action::SimpleAction;
+pub use statement::{Action, ForLoop, Statement};

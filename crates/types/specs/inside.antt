@@ -6,5 +6,4 @@ pub mod Checker
 pub mod Block
 -- What the code is made of: no public contract cites these definitions.
 pub mod Applies
-pub mod Plain
 pub mod Variables

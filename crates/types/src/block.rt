@@ -1,13 +1,12 @@
 //! Blocks of `main`: typing of its statements, one after the other.
 ghost use Rattle.std.specs.Prelude.{◌≡◌, OnOk};
-ghost use Rattle.syntax.specs.SourceViews.{statement_kind_tree as source_action, block_tree as source_block};
+ghost use Rattle.syntax.specs.SourceViews.{statement_kind_tree as source_action, for_loop_tree, simple_action_tree, block_tree as source_block};
 ghost use Rattle.typed_tree.specs.BlockTree.{Empty, simple_statement_tree, statement_kind_tree, block_tree};
 ghost use Rattle.expression_types.specs.Faults.{ReportsFaults};
 ghost use Rattle.expression_types.specs.ScopeTree.{KeepsNames};
 ghost use Rattle.types.specs.Block.{action_typed, statements_typed};
 ghost use Rattle.types.specs.inside.Block.{block_typed, statement_tree, statement_typed};
 ghost use Rattle.types.specs.inside.Checker.{checker_of};
-ghost use Rattle.types.specs.inside.Plain.{DeclaresNothing, HasTest, IsFor, ReducesOrSetsEntry};
 
 use crate::checker::{Checker, count, declare_loop_variable, label};
 use crate::entry::WrittenEntry;
@@ -17,7 +16,7 @@ use crate::statement::{
 use crate::wanted::{condition, integer};
 use expression_types::Fault;
 use std::alloc::{AllocError, Global};
-use syntax::Action as Written;
+use syntax::{Action, ForLoop, SimpleAction};
 use typed_tree::{MainStatement, SimpleStatement, StatementKind};
 
 /// Statements in order. What they declare stays visible after them.
@@ -84,7 +83,7 @@ fn inner(
 #[cycle(statements)]
 fn action(
     alloc: Global,
-    action: &Written,
+    action: &Action,
     checker: &mut Checker,
     first_fault: &mut Option<Fault>,
 ) -> Result<StatementKind, AllocError>
@@ -93,50 +92,21 @@ fn action(
     ensures kept { OnOk result (KeepsNames checker.old.scope checker.new.scope) }
 {
     match action {
-        Written::Declare {
-            at,
-            variable,
-            initial,
-        } => {
-            let declared = declare_variable(alloc, checker, *at, variable, initial, first_fault)?;
-            Ok(StatementKind::Simple(declared))
+        Action::Simple(action) => {
+            let typed = without_block(alloc, action, checker, first_fault)?;
+            Ok(StatementKind::Simple(typed))
         }
-        Written::For { .. } => repeat(alloc, action, checker, first_fault),
-        Written::While { .. } | Written::If { .. } | Written::IfElse { .. } => {
-            tested(alloc, action, checker, first_fault)
-        }
-        plain => {
-            let plain = without_block(alloc, plain, checker, first_fault)?;
-            Ok(StatementKind::Simple(plain))
-        }
-    }
-}
-
-/// What a statement with a test does.
-#[cycle(statements)]
-fn tested(
-    alloc: Global,
-    action: &Written,
-    checker: &mut Checker,
-    first_fault: &mut Option<Fault>,
-) -> Result<StatementKind, AllocError>
-    requires { HasTest action.now }
-    ensures typed { ReportsFaults (λ a. (statement_kind_tree a, checker_of checker.new)) first_fault.old first_fault.new result
-        (action_typed (checker_of checker.old) (source_action action.now)) }
-    ensures kept { OnOk result (KeepsNames checker.old.scope checker.new.scope) }
-{
-    match action {
-        Written::While { at, test, body } => {
+        Action::While { at, test, body } => {
             let test = condition(alloc, &checker.scope, *at, test, first_fault)?;
             let body = inner(alloc, body, checker, first_fault)?;
             Ok(StatementKind::While(test, body))
         }
-        Written::If { at, test, body } => {
+        Action::If { at, test, body } => {
             let test = condition(alloc, &checker.scope, *at, test, first_fault)?;
             let body = inner(alloc, body, checker, first_fault)?;
             Ok(StatementKind::If(test, body))
         }
-        Written::IfElse {
+        Action::IfElse {
             at,
             test,
             body,
@@ -147,71 +117,69 @@ fn tested(
             let other = inner(alloc, otherwise, checker, first_fault)?;
             Ok(StatementKind::IfElse(test, body, other))
         }
-        _ => unreachable!(),
+        Action::For(for_loop) => repeat(alloc, for_loop, checker, first_fault),
     }
 }
 
-/// What a statement does that has no block and declares nothing.
+/// What a statement without a block does.
 fn without_block(
     alloc: Global,
-    action: &Written,
-    checker: &Checker,
+    action: &SimpleAction,
+    checker: &mut Checker,
     first_fault: &mut Option<Fault>,
 ) -> Result<SimpleStatement, AllocError>
-    requires { DeclaresNothing action.now }
-    ensures { ReportsFaults (λ a. (simple_statement_tree a, checker_of checker.now)) first_fault.old first_fault.new result
-        (action_typed (checker_of checker.now) (source_action action.now)) }
+    ensures typed { ReportsFaults (λ a. (simple_statement_tree a, checker_of checker.new)) first_fault.old first_fault.new result
+        (action_typed (checker_of checker.old) (simple_action_tree action.now)) }
+    ensures kept { OnOk result (KeepsNames checker.old.scope checker.new.scope) }
 {
-    let scope = &checker.scope;
     match action {
-        Written::Print { at, value } => print(alloc, scope, *at, value, first_fault),
-        Written::Assign { name, value } => assign(alloc, checker, name, value, first_fault),
-        Written::AddVertex { set, vertex } => add_vertex(alloc, scope, set, vertex, first_fault),
-        Written::Apply {
-            target,
-            ends,
-            function,
-        } => Ok(apply(scope, target, ends, function, first_fault)),
-        change => reduction_or_entry(alloc, change, checker, first_fault),
-    }
-}
-
-/// A reduction, or a write of an entry.
-fn reduction_or_entry(
-    alloc: Global,
-    action: &Written,
-    checker: &Checker,
-    first_fault: &mut Option<Fault>,
-) -> Result<SimpleStatement, AllocError>
-    requires { ReducesOrSetsEntry action.now }
-    ensures { ReportsFaults (λ a. (simple_statement_tree a, checker_of checker.now)) first_fault.old first_fault.new result
-        (action_typed (checker_of checker.now) (source_action action.now)) }
-{
-    let scope = &checker.scope;
-    match action {
-        Written::Reduce {
+        SimpleAction::Declare {
+            at,
+            variable,
+            initial,
+        } => declare_variable(alloc, checker, *at, variable, initial, first_fault),
+        SimpleAction::Print { at, value } => print(alloc, &checker.scope, *at, value, first_fault),
+        SimpleAction::Assign { name, value } => assign(alloc, checker, name, value, first_fault),
+        SimpleAction::Reduce {
             name,
             reduction,
             value,
-        } => reduce(alloc, scope, name, *reduction, value, first_fault),
-        Written::SetEntry {
+        } => reduce(alloc, &checker.scope, name, *reduction, value, first_fault),
+        SimpleAction::SetEntry {
             vector,
             index,
             value,
-        } => {
-            let written = WrittenEntry { vector, index };
-            set_entry(alloc, scope, written, value, first_fault)
-        }
-        Written::ReduceEntry {
+        } => set_entry(
+            alloc,
+            &checker.scope,
+            WrittenEntry { vector, index },
+            value,
+            first_fault,
+        ),
+        SimpleAction::ReduceEntry {
             vector,
             index,
             reduction,
             value,
         } => {
             let written = WrittenEntry { vector, index };
-            reduce_entry(alloc, scope, written, *reduction, value, first_fault)
+            reduce_entry(
+                alloc,
+                &checker.scope,
+                written,
+                *reduction,
+                value,
+                first_fault,
+            )
         }
-        _ => unreachable!(),
+        SimpleAction::AddVertex { set, vertex } => {
+            add_vertex(alloc, &checker.scope, set, vertex, first_fault)
+        }
+        SimpleAction::Apply {
+            target,
+            ends,
+            function,
+        } => Ok(apply(&checker.scope, target, ends, function, first_fault)),
     }
 }
 
@@ -219,30 +187,20 @@ fn reduction_or_entry(
 #[cycle(statements)]
 fn repeat(
     alloc: Global,
-    action: &Written,
+    for_loop: &ForLoop,
     checker: &mut Checker,
     first_fault: &mut Option<Fault>,
 ) -> Result<StatementKind, AllocError>
-    requires { IsFor action.now }
     ensures typed { ReportsFaults (λ a. (statement_kind_tree a, checker_of checker.new)) first_fault.old first_fault.new result
-        (action_typed (checker_of checker.old) (source_action action.now)) }
+        (action_typed (checker_of checker.old) (for_loop_tree for_loop.now)) }
     ensures kept { OnOk result (KeepsNames checker.old.scope checker.new.scope) }
 {
-    let Written::For {
-        at,
-        name,
-        first,
-        limit,
-        body,
-    } = action
-    else {
-        unreachable!();
-    };
-    let first = integer(alloc, &checker.scope, *at, first, first_fault)?;
-    let limit = integer(alloc, &checker.scope, *at, limit, first_fault)?;
+    let at = for_loop.at;
+    let first = integer(alloc, &checker.scope, at, &for_loop.first, first_fault)?;
+    let limit = integer(alloc, &checker.scope, at, &for_loop.limit, first_fault)?;
     let mark = checker.scope.mark();
-    let slot = declare_loop_variable(alloc, checker, name, first_fault)?;
-    let body = statements(alloc, body, checker, first_fault)?;
+    let slot = declare_loop_variable(alloc, checker, &for_loop.name, first_fault)?;
+    let body = statements(alloc, &for_loop.body, checker, first_fault)?;
     checker.scope.leave(mark);
     Ok(StatementKind::For(slot.name, first, limit, body))
 }

@@ -1,12 +1,11 @@
 //! Blocks of functions: typing of their statements. Where one is faulty, or no function may hold it, a harmless one
 //! is in its place.
 ghost use Rattle.std.specs.Prelude.{◌≡◌, OnOk};
-ghost use Rattle.syntax.specs.SourceViews.{statement_kind_tree as source_action, block_tree as source_block};
+ghost use Rattle.syntax.specs.SourceViews.{statement_kind_tree as source_action, for_loop_tree, simple_action_tree, block_tree as source_block};
 ghost use Rattle.typed_tree.specs.FunctionStatementTree.{NoStep, function_statement_tree, function_statements_tree};
 ghost use Rattle.expression_types.specs.Faults.{ReportsFaults};
 ghost use Rattle.expression_types.specs.ScopeTree.{KeepsNames};
 ghost use Rattle.types.specs.inside.Checker.{checker_of};
-ghost use Rattle.types.specs.inside.Plain.{DeclaresNothing, HasTest, IsFor, ReducesOrSetsEntry};
 ghost use Rattle.types.specs.inside.Step.{labelled_step, steps_inside};
 ghost use Rattle.types.specs.Step.{step_typed, steps_typed};
 
@@ -18,7 +17,7 @@ use crate::function::{
 use crate::wanted::{condition, integer};
 use expression_types::Fault;
 use std::alloc::{AllocError, Global};
-use syntax::{Action as Written, Statement};
+use syntax::{Action, ForLoop, SimpleAction, Statement};
 use typed_tree::FunctionStatement;
 
 /// Statements in order. What they declare stays visible after them.
@@ -75,11 +74,11 @@ fn inner(
     Ok(typed)
 }
 
-/// What a statement does.
+/// What a statement does; no function may hold a `while`.
 #[cycle(steps)]
 fn step(
     alloc: Global,
-    action: &Written,
+    action: &Action,
     checker: &mut Checker,
     first_fault: &mut Option<Fault>,
 ) -> Result<FunctionStatement, AllocError>
@@ -88,45 +87,19 @@ fn step(
     ensures kept { OnOk result (KeepsNames checker.old.scope checker.new.scope) }
 {
     match action {
-        Written::Declare {
-            at,
-            variable,
-            initial,
-        } => declare_variable(alloc, checker, *at, variable, initial, first_fault),
-        Written::For { .. } => repeat(alloc, action, checker, first_fault),
-        Written::While { .. } | Written::If { .. } | Written::IfElse { .. } => {
-            tested(alloc, action, checker, first_fault)
-        }
-        plain => without_block(alloc, plain, checker, first_fault),
-    }
-}
-
-/// What a statement with a test does; no function may hold a `while`.
-#[cycle(steps)]
-fn tested(
-    alloc: Global,
-    action: &Written,
-    checker: &mut Checker,
-    first_fault: &mut Option<Fault>,
-) -> Result<FunctionStatement, AllocError>
-    requires { HasTest action.now }
-    ensures typed { ReportsFaults (λ s. (function_statement_tree s, checker_of checker.new)) first_fault.old first_fault.new result
-        (step_typed (checker_of checker.old) (source_action action.now)) }
-    ensures kept { OnOk result (KeepsNames checker.old.scope checker.new.scope) }
-{
-    match action {
-        Written::While { at, test, body } => {
+        Action::Simple(action) => without_block(alloc, action, checker, first_fault),
+        Action::While { at, test, body } => {
             let step = wrong(*at, alloc, first_fault);
             let _test = condition(alloc, &checker.scope, *at, test, first_fault)?;
             let _body = inner(alloc, body, checker, first_fault)?;
             Ok(step)
         }
-        Written::If { at, test, body } => {
+        Action::If { at, test, body } => {
             let test = condition(alloc, &checker.scope, *at, test, first_fault)?;
             let body = inner(alloc, body, checker, first_fault)?;
             Ok(FunctionStatement::If(test, body))
         }
-        Written::IfElse {
+        Action::IfElse {
             at,
             test,
             body,
@@ -137,64 +110,46 @@ fn tested(
             let other = inner(alloc, otherwise, checker, first_fault)?;
             Ok(FunctionStatement::IfElse(test, body, other))
         }
-        _ => unreachable!(),
+        Action::For(for_loop) => repeat(alloc, for_loop, checker, first_fault),
     }
 }
 
-/// What a statement does that has no block and declares nothing.
+/// What a statement without a block does.
 fn without_block(
     alloc: Global,
-    action: &Written,
+    action: &SimpleAction,
     checker: &mut Checker,
     first_fault: &mut Option<Fault>,
 ) -> Result<FunctionStatement, AllocError>
-    requires { DeclaresNothing action.now }
     ensures typed { ReportsFaults (λ s. (function_statement_tree s, checker_of checker.new)) first_fault.old first_fault.new result
-        (step_typed (checker_of checker.old) (source_action action.now)) }
-    ensures kept { checker.new.scope ≡ checker.old.scope }
+        (step_typed (checker_of checker.old) (simple_action_tree action.now)) }
+    ensures kept { OnOk result (KeepsNames checker.old.scope checker.new.scope) }
 {
     match action {
-        Written::Print { at, .. } => Ok(print(*at, alloc, first_fault)),
-        Written::Assign { name, value } => assign(alloc, checker, name, value, first_fault),
-        Written::AddVertex { set, vertex } => {
-            add_vertex(alloc, &checker.scope, set, vertex, first_fault)
-        }
-        Written::Apply {
-            target,
-            ends,
-            function,
-        } => Ok(apply(alloc, &checker.scope, target, ends, function, first_fault)),
-        change => reduction_or_entry(alloc, change, checker, first_fault),
-    }
-}
-
-/// A reduction, or a write of an entry.
-fn reduction_or_entry(
-    alloc: Global,
-    action: &Written,
-    checker: &mut Checker,
-    first_fault: &mut Option<Fault>,
-) -> Result<FunctionStatement, AllocError>
-    requires { ReducesOrSetsEntry action.now }
-    ensures typed { ReportsFaults (λ s. (function_statement_tree s, checker_of checker.new)) first_fault.old first_fault.new result
-        (step_typed (checker_of checker.old) (source_action action.now)) }
-    ensures kept { checker.new.scope ≡ checker.old.scope }
-{
-    match action {
-        Written::Reduce {
+        SimpleAction::Declare {
+            at,
+            variable,
+            initial,
+        } => declare_variable(alloc, checker, *at, variable, initial, first_fault),
+        SimpleAction::Print { at, .. } => Ok(print(*at, alloc, first_fault)),
+        SimpleAction::Assign { name, value } => assign(alloc, checker, name, value, first_fault),
+        SimpleAction::Reduce {
             name,
             reduction,
             value,
         } => reduce(alloc, &checker.scope, name, *reduction, value, first_fault),
-        Written::SetEntry {
+        SimpleAction::SetEntry {
             vector,
             index,
             value,
-        } => {
-            let written = WrittenEntry { vector, index };
-            set_entry(alloc, &checker.scope, written, value, first_fault)
-        }
-        Written::ReduceEntry {
+        } => set_entry(
+            alloc,
+            &checker.scope,
+            WrittenEntry { vector, index },
+            value,
+            first_fault,
+        ),
+        SimpleAction::ReduceEntry {
             vector,
             index,
             reduction,
@@ -203,7 +158,14 @@ fn reduction_or_entry(
             let written = WrittenEntry { vector, index };
             reduce_entry(alloc, checker, written, *reduction, value, first_fault)
         }
-        _ => unreachable!(),
+        SimpleAction::AddVertex { set, vertex } => {
+            add_vertex(alloc, &checker.scope, set, vertex, first_fault)
+        }
+        SimpleAction::Apply {
+            target,
+            ends,
+            function,
+        } => Ok(apply(alloc, &checker.scope, target, ends, function, first_fault)),
     }
 }
 
@@ -211,31 +173,21 @@ fn reduction_or_entry(
 #[cycle(steps)]
 fn repeat(
     alloc: Global,
-    action: &Written,
+    for_loop: &ForLoop,
     checker: &mut Checker,
     first_fault: &mut Option<Fault>,
 ) -> Result<FunctionStatement, AllocError>
-    requires { IsFor action.now }
     ensures typed { ReportsFaults (λ s. (function_statement_tree s, checker_of checker.new)) first_fault.old first_fault.new result
-        (step_typed (checker_of checker.old) (source_action action.now)) }
+        (step_typed (checker_of checker.old) (for_loop_tree for_loop.now)) }
     ensures kept { OnOk result (KeepsNames checker.old.scope checker.new.scope) }
 {
-    let Written::For {
-        at,
-        name,
-        first,
-        limit,
-        body,
-    } = action
-    else {
-        unreachable!();
-    };
-    let step = wrong(*at, alloc, first_fault);
-    let _first = integer(alloc, &checker.scope, *at, first, first_fault)?;
-    let _limit = integer(alloc, &checker.scope, *at, limit, first_fault)?;
+    let at = for_loop.at;
+    let step = wrong(at, alloc, first_fault);
+    let _first = integer(alloc, &checker.scope, at, &for_loop.first, first_fault)?;
+    let _limit = integer(alloc, &checker.scope, at, &for_loop.limit, first_fault)?;
     let mark = checker.scope.mark();
-    declare_loop_variable(alloc, checker, name, first_fault)?;
-    let _body = steps(alloc, body, checker, first_fault)?;
+    declare_loop_variable(alloc, checker, &for_loop.name, first_fault)?;
+    let _body = steps(alloc, &for_loop.body, checker, first_fault)?;
     checker.scope.leave(mark);
     Ok(step)
 }

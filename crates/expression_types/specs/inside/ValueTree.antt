@@ -2,7 +2,6 @@
 use Rattle.std.specs.Prelude.{[], Bool, false, ◌||◌, List, ◌∷◌}
 use Rattle.typed_tree.specs.declared.expression.Operand.{Operand}
 use Rattle.typed_tree.specs.IntExpressionTree.{int_expression_tree}
-use Rattle.typed_tree.specs.IntExpressionTree as integer
 use Rattle.expression_types.specs.ValueTree.{reads_entry}
 
 -- in one of the operands

@@ -7,7 +7,7 @@ use Rattle.syntax.specs.Terminals.{Terminal, OfKeyword}
 use Rattle.syntax.specs.ExpressionSpelling.{prefix_terminal}
 use Rattle.syntax.specs.declared.schedule.Chain.{Chain}
 use Rattle.syntax.specs.SourceSpelling.{each_before}
-use Rattle.syntax.specs.SourceTrees.{StatementKindTree, While, For, If, IfElse, ChainTree}
+use Rattle.syntax.specs.SourceTrees.{ChainTree}
 use Rattle.syntax.specs.SourceViews.{chain_tree}
 use Rattle.source_text.specs.Text.{text_of}
 
@@ -27,14 +27,6 @@ signs_before signs rest = each_before (λ sign others. prefix_terminal sign ∷ 
 unfoldable pub PutsUpTo : {A : Type 0} → (List Terminal → List Terminal) → (A → List Terminal → List Terminal) → List A → ℕ → List ℕ → List ℕ → Type 0
 PutsUpTo before step items i old new =
     (rest : List Terminal) (whole : List ℕ) → Completes old (before rest) whole → Completes new (each_before step (drop i items) rest) whole
-
--- the statement holds no block
-abbrev pub IsSimple : StatementKindTree → Type 0
-IsSimple (While at test body) = ⊥
-IsSimple (For at name first limit body) = ⊥
-IsSimple (If at test body) = ⊥
-IsSimple (IfElse at test body otherwise) = ⊥
-IsSimple _ = Unit {0}
 
 -- the schedule's chains
 abbrev pub chains_tree : Vec Chain → List ChainTree

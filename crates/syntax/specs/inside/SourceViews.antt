@@ -4,7 +4,6 @@ use Rattle.syntax.specs.Terminals.{Identifier}
 use Rattle.syntax.specs.declared.statement.Statement.{Statement}
 use Rattle.syntax.specs.SourceTrees.{StatementKindTree}
 use Rattle.syntax.specs.SourceViews.{statement_kind_tree}
-use Rattle.syntax.specs.declared.statement.Action.TheVariants as action
 
 abbrev pub statement_of : Statement → Option Identifier × StatementKindTree
 statement_of s = (s.label, statement_kind_tree s.action)

@@ -1,10 +1,11 @@
 -- Proofs of the mutually recursive functions of src/statement.rt.
 use Rattle.std.proofs.Common.{ap, sym, ◌∙◌}
 use Rattle.std.proofs.lemmas.Result.{on_ok_weaker}
+use Rattle.syntax.specs.declared.statement.ForLoop.{out-ForLoop}
 use Rattle.syntax.specs.SourceSpelling.{action_before}
 use Rattle.syntax.specs.SourceTrees.{While, For, If, IfElse}
 use Rattle.syntax.specs.SourceViews.{statement_kind_tree, block_tree}
-use Rattle.parser.proofs.BlockLaws.{statement_kind_tree-While, statement_kind_tree-For, statement_kind_tree-If, statement_kind_tree-IfElse}
+use Rattle.parser.proofs.BlockLaws.{statement_kind_tree-While, for_loop_tree-block, statement_kind_tree-If, statement_kind_tree-IfElse}
 use Rattle.source_text.proofs.Puts.{completes_same, statement_before, block_before-each, up_to_none, up_to_more, up_to_all}
 use Rattle.source_text.proofs.statement.+statements.Goals as goal
 
@@ -31,10 +32,11 @@ put_action-returns-in_ok-put_test-in-While t c =
 
 pub put_action-returns-in_ok-put_range-in-For : goal.put_action-returns-in_ok-put_range-in-For
 put_action-returns-in_ok-put_range-in-For t c =
-    let tree = ap statement_kind_tree c.in-For.is ∙ statement_kind_tree-For c.in-For.at c.in-For.name c.in-For.first c.in-For.limit c.in-For.body
-    ∙ ap (λ b. For c.in-For.at c.in-For.name c.in-For.first c.in-For.limit (block_tree b)) (sym c.deref-in-For.ensures.value) in
+    let f = out-ForLoop c.in-For.for_loop in
+    let tree = ap statement_kind_tree c.in-For.is ∙ for_loop_tree-block c.in-For.for_loop
+    ∙ ap (λ b. For f.at f.name f.first f.limit (block_tree b)) (sym c.deref-in-For.ensures.value) in
     on_ok_weaker c.put_to_end-in-For.result (λ puts rest whole h.
-    puts rest whole (c.in_ok-put_range-in-For.ensures c.in-For.at _ whole
+    puts rest whole (c.in_ok-put_range-in-For.ensures f.at _ whole
     (completes_same c.args.out.now.items whole _ _ (ap (λ a. action_before a rest) tree) h)))
     c.put_to_end-in-For.ensures
 

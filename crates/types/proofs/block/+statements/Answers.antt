@@ -1,5 +1,6 @@
 -- Proofs of `statements` and its mutually recursive functions, src/block.rt.
 use Rattle.std.proofs.Common.{◌≡◌, ap, subst, sym, ◌∙◌, suc, ◌+◌, length, drop}
+use Rattle.syntax.specs.declared.statement.ForLoop.{out-ForLoop}
 use Rattle.syntax.specs.SourceTrees as source
 use Rattle.syntax.specs.SourceViews.{statement_kind_tree as source_action, block_tree as source_block}
 use Rattle.typed_tree.specs.BlockTree.{Empty, For, statement_kind_tree, block_tree}
@@ -7,7 +8,7 @@ use Rattle.typed_tree.specs.BoolExpressionTree.{bool_expression_tree}
 use Rattle.typed_tree.specs.IntExpressionTree.{int_expression_tree}
 use Rattle.typed_tree.proofs.Blocks.{statement_kind_tree-While, statement_kind_tree-If, statement_kind_tree-IfElse, statement_kind_tree-For}
 use Rattle.expression_types.specs.declared.scope.Entity.TheVariants as entity
-use Rattle.expression_types.specs.Faults.{outcome, sure, ◌>>=◌}
+use Rattle.expression_types.specs.Faults.{ReportsFaults, outcome, sure, ◌>>=◌}
 use Rattle.expression_types.specs.ScopeTree.{KeepsNames, left}
 use Rattle.expression_types.proofs.Steps.{outcome_then}
 use Rattle.types.specs.Block.{action_typed, closed, statements_typed}
@@ -18,22 +19,22 @@ use Rattle.types.proofs.Kept.{keeps_on, keeps_same, left_again}
 use Rattle.types.proofs.Sources as sources
 use Rattle.types.proofs.block.+statements.Goals as goal
 
-pub tested-returns-in_ok-body-in-While-clause-typed : goal.tested-returns-in_ok-body-in-While-clause-typed
-tested-returns-in_ok-body-in-While-clause-typed t c =
+pub action-returns-in_ok-body-in-While-clause-typed : goal.action-returns-in_ok-body-in-While-clause-typed
+action-returns-in_ok-body-in-While-clause-typed t c =
     while_typed (checker_of c.args.checker.now) (checker_of c.inner.new.checker) c.args.action.now c.in-While.at c.in-While.test c.in-While.body c.deref.result.now
     (bool_expression_tree c.in_ok-test-in-While.test) (block_tree c.in_ok-body-in-While.body.items) c.args.first_fault.now c.condition.new.first_fault c.inner.new.first_fault
     c.deref.ensures.value c.in-While.is c.in_ok-test-in-While.ensures c.in_ok-body-in-While.ensures.typed
     ∙ ap (λ a. ((a, checker_of c.inner.new.checker), c.inner.new.first_fault)) (sym (statement_kind_tree-While c.in_ok-test-in-While.test c.in_ok-body-in-While.body))
 
-pub tested-returns-in_ok-body-in-If-clause-typed : goal.tested-returns-in_ok-body-in-If-clause-typed
-tested-returns-in_ok-body-in-If-clause-typed t c =
+pub action-returns-in_ok-body-in-If-clause-typed : goal.action-returns-in_ok-body-in-If-clause-typed
+action-returns-in_ok-body-in-If-clause-typed t c =
     if_typed (checker_of c.args.checker.now) (checker_of c.inner-in-If.new.checker) c.args.action.now c.in-If.at c.in-If.test c.in-If.body c.deref-in-If.result.now
     (bool_expression_tree c.in_ok-test-in-If.test) (block_tree c.in_ok-body-in-If.body.items) c.args.first_fault.now c.condition-in-If.new.first_fault c.inner-in-If.new.first_fault
     c.deref-in-If.ensures.value c.in-If.is c.in_ok-test-in-If.ensures c.in_ok-body-in-If.ensures.typed
     ∙ ap (λ a. ((a, checker_of c.inner-in-If.new.checker), c.inner-in-If.new.first_fault)) (sym (statement_kind_tree-If c.in_ok-test-in-If.test c.in_ok-body-in-If.body))
 
-pub tested-returns-in_ok-other-in-IfElse-clause-typed : goal.tested-returns-in_ok-other-in-IfElse-clause-typed
-tested-returns-in_ok-other-in-IfElse-clause-typed t c =
+pub action-returns-in_ok-other-in-IfElse-clause-typed : goal.action-returns-in_ok-other-in-IfElse-clause-typed
+action-returns-in_ok-other-in-IfElse-clause-typed t c =
     if_else_typed (checker_of c.args.checker.now) (checker_of c.inner-in-IfElse.new.checker) (checker_of c.inner-in-IfElse-2.new.checker) c.args.action.now c.in-IfElse.at c.in-IfElse.test
     c.in-IfElse.body c.in-IfElse.otherwise c.deref-in-IfElse.result.now c.deref-in-IfElse-2.result.now (bool_expression_tree c.in_ok-test-in-IfElse.test)
     (block_tree c.in_ok-body-in-IfElse.body.items) (block_tree c.in_ok-other-in-IfElse.other.items)
@@ -42,11 +43,16 @@ tested-returns-in_ok-other-in-IfElse-clause-typed t c =
     ∙ ap (λ a. ((a, checker_of c.inner-in-IfElse-2.new.checker), c.inner-in-IfElse-2.new.first_fault))
     (sym (statement_kind_tree-IfElse c.in_ok-test-in-IfElse.test c.in_ok-body-in-IfElse.body c.in_ok-other-in-IfElse.other))
 
+pub action-returns-in-For-clause-typed : goal.action-returns-in-For-clause-typed
+action-returns-in-For-clause-typed t c =
+    subst (λ a. ReportsFaults (λ s. (statement_kind_tree s, checker_of c.repeat.new.checker)) c.args.first_fault.now c.repeat.new.first_fault c.repeat.result (action_typed (checker_of c.args.checker.now) a))
+    (sym (ap source_action c.in-For.is)) c.repeat.ensures.typed
+
 pub repeat-returns-clause-typed : goal.repeat-returns-clause-typed
 repeat-returns-clause-typed t c =
     let checker = checker_of c.args.checker.now in
     let scope = checker.scope in
-    let at = c.in-For.at in
+    let f = out-ForLoop c.args.for_loop.now in
     let body = source_block c.deref.result.now in
     let a = int_expression_tree c.in_ok-first.first in
     let z = int_expression_tree c.in_ok-limit.limit in
@@ -56,16 +62,15 @@ repeat-returns-clause-typed t c =
     let new = c.statements.new.first_fault in
     let kept = keeps_on scope c.declare_loop_variable.new.checker.scope c.statements.new.checker.scope c.in_ok-slot.ensures.kept c.in_ok-body.ensures.kept in
     let again = c.leave.ensures ∙ ap (λ m. left m c.statements.new.checker.scope) c.mark-mark.ensures.mark ∙ left_again scope c.statements.new.checker.scope kept in
-    ap (λ a. outcome c.args.first_fault.now (action_typed checker (source_action a))) c.in-For.is
-    ∙ ap (λ a. outcome c.args.first_fault.now (action_typed checker a)) (sources.statement_kind_tree-For at c.in-For.name c.in-For.first c.in-For.limit c.in-For.body
-    ∙ ap (λ xs. source.For at c.in-For.name c.in-For.first c.in-For.limit (source_block xs)) (sym c.deref.ensures.value))
-    ∙ outcome_then c.args.first_fault.now c.integer.new.first_fault (integer_in scope at c.in-For.first) a
-    (λ a. integer_in scope at c.in-For.limit >>= λ z. declared_in checker c.in-For.name (entity.LoopVariable (integer_slot checker)) >>= λ d. statements_typed d Empty body >>= λ b.
+    ap (λ a. outcome c.args.first_fault.now (action_typed checker a)) (sources.for_loop_tree-block c.args.for_loop.now
+    ∙ ap (λ xs. source.For f.at f.name f.first f.limit (source_block xs)) (sym c.deref.ensures.value))
+    ∙ outcome_then c.args.first_fault.now c.integer.new.first_fault (integer_in scope f.at f.first) a
+    (λ a. integer_in scope f.at f.limit >>= λ z. declared_in checker f.name (entity.LoopVariable (integer_slot checker)) >>= λ d. statements_typed d Empty body >>= λ b.
     sure (For (length checker.names) a z b.0, closed checker b.1)) c.in_ok-first.ensures
-    ∙ outcome_then c.integer.new.first_fault c.integer-2.new.first_fault (integer_in scope at c.in-For.limit) z
-    (λ z. declared_in checker c.in-For.name (entity.LoopVariable (integer_slot checker)) >>= λ d. statements_typed d Empty body >>= λ b.
+    ∙ outcome_then c.integer.new.first_fault c.integer-2.new.first_fault (integer_in scope f.at f.limit) z
+    (λ z. declared_in checker f.name (entity.LoopVariable (integer_slot checker)) >>= λ d. statements_typed d Empty body >>= λ b.
     sure (For (length checker.names) a z b.0, closed checker b.1)) c.in_ok-limit.ensures
-    ∙ outcome_then c.integer-2.new.first_fault c.declare_loop_variable.new.first_fault (declared_in checker c.in-For.name (entity.LoopVariable (integer_slot checker))) d
+    ∙ outcome_then c.integer-2.new.first_fault c.declare_loop_variable.new.first_fault (declared_in checker f.name (entity.LoopVariable (integer_slot checker))) d
     (λ d. statements_typed d Empty body >>= λ b. sure (For (length checker.names) a z b.0, closed checker b.1))
     c.in_ok-slot.ensures.declared
     ∙ outcome_then c.declare_loop_variable.new.first_fault new (statements_typed d Empty body) (b, last) (λ b. sure (For (length checker.names) a z b.0, closed checker b.1)) c.in_ok-body.ensures.typed
@@ -125,12 +130,12 @@ repeat-returns-clause-kept t c =
     let kept = keeps_on scope c.declare_loop_variable.new.checker.scope last c.in_ok-slot.ensures.kept c.in_ok-body.ensures.kept in
     keeps_same scope c.leave.new.self (c.leave.ensures ∙ ap (λ m. left m last) c.mark-mark.ensures.mark ∙ left_again scope last kept)
 
-pub tested-returns-in_ok-body-in-While-clause-kept : goal.tested-returns-in_ok-body-in-While-clause-kept
-tested-returns-in_ok-body-in-While-clause-kept t c = c.in_ok-body-in-While.ensures.kept
+pub action-returns-in_ok-body-in-While-clause-kept : goal.action-returns-in_ok-body-in-While-clause-kept
+action-returns-in_ok-body-in-While-clause-kept t c = c.in_ok-body-in-While.ensures.kept
 
-pub tested-returns-in_ok-body-in-If-clause-kept : goal.tested-returns-in_ok-body-in-If-clause-kept
-tested-returns-in_ok-body-in-If-clause-kept t c = c.in_ok-body-in-If.ensures.kept
+pub action-returns-in_ok-body-in-If-clause-kept : goal.action-returns-in_ok-body-in-If-clause-kept
+action-returns-in_ok-body-in-If-clause-kept t c = c.in_ok-body-in-If.ensures.kept
 
-pub tested-returns-in_ok-other-in-IfElse-clause-kept : goal.tested-returns-in_ok-other-in-IfElse-clause-kept
-tested-returns-in_ok-other-in-IfElse-clause-kept t c =
+pub action-returns-in_ok-other-in-IfElse-clause-kept : goal.action-returns-in_ok-other-in-IfElse-clause-kept
+action-returns-in_ok-other-in-IfElse-clause-kept t c =
     keeps_on c.args.checker.now.scope c.inner-in-IfElse.new.checker.scope c.inner-in-IfElse-2.new.checker.scope c.in_ok-body-in-IfElse.ensures.kept c.in_ok-other-in-IfElse.ensures.kept
