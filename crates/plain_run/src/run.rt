@@ -1,5 +1,5 @@
 //! The slow run of programs.
-ghost use Rattle.std.specs.Prelude.{◌≡◌, ◌<◌, ◌≤◌, ℕ, [], ◌∷◌, IfOk, IfNone, OnOk};
+ghost use Rattle.std.specs.Prelude.{◌≡◌, ◌<◌, ◌≤◌, [], ◌∷◌, IfOk, IfNone, OnOk};
 ghost use Rattle.typed_tree.specs.BoolExpressionTree.{bool_expression_tree};
 ghost use Rattle.typed_tree.specs.BlockTree.{statement_kind_tree, simple_statement_tree, value_statement_tree, block_tree};
 ghost use Rattle.typed_tree.specs.ProgramTree.{program_tree};

@@ -5,5 +5,6 @@ mod Commits
 mod Runs
 mod Crossing
 mod Pairs
+mod Zipped
 mod Seats
 mod OwnCommits

@@ -1,5 +1,5 @@
 -- The readers of a race, and what it gives.
-use Rattle.std.proofs.Common.{◌≡◌, ◌∙◌, ℕ, zero, suc, ◌+◌, Option, Some, Result, Ok, option_to_list, List, [], ◌∷◌, ◌++◌, length, length-append, refl, sym, ap, subst, arith}
+use Rattle.std.proofs.Common.{◌≡◌, ◌∙◌, ℕ, zero, suc, ◌+◌, Result, Ok, List, [], ◌∷◌, ◌++◌, length, length-append, refl, ap, subst, arith}
 use Rattle.std.specs.Global.{Vec}
 use Rattle.std.specs.declared.alloc.AllocError.{AllocError}
 use Rattle.std.proofs.lemmas.List.{same_from_push}
@@ -22,16 +22,11 @@ pub length_passes : (n : ℕ) → length (fresh_readers n) ≡ n
 length_passes zero = refl
 length_passes (suc n) = let one = length-append (fresh_readers n) (fresh_reader n ∷ []) in let rest = length_passes n in omega arith
 
--- the last reader is taken
-pub pass_popped : (n : ℕ) (old new : List ReaderState) (popped : Option ReaderState) (writer : ReaderState) → old ≡ fresh_readers (suc n) → old ≡ new ++ option_to_list popped → popped ≡ Some writer
-    → (new ≡ fresh_readers n) × (writer ≡ fresh_reader n)
-pass_popped n old new popped writer are cut some =
-    same_from_push new (fresh_readers n) writer (fresh_reader n) (ap (λ (o : Option ReaderState). new ++ option_to_list o) (sym some) ∙ sym cut ∙ are)
-
--- there is a reader for each of n others
-pub as_many_left : (n : ℕ) (old new : List ReaderState) (popped : Option ReaderState) (writer : ReaderState) → old ≡ fresh_readers (suc n) → old ≡ new ++ option_to_list popped → popped ≡ Some writer
-    → length new ≡ n
-as_many_left n old new popped writer are cut some = ap (λ (l : List ReaderState). length l) (pass_popped n old new popped writer are cut some).0 ∙ length_passes n
+-- the last reader and the others
+pub writer_apart : (n : ℕ) (others : List ReaderState) (writer : ReaderState) → others ++ writer ∷ [] ≡ fresh_readers (n + 1) → (others ≡ fresh_readers n) × (writer ≡ fresh_reader n)
+writer_apart n others writer are =
+    let more : n + 1 ≡ suc n = omega arith in
+    same_from_push others (fresh_readers n) writer (fresh_reader n) (are ∙ ap fresh_readers more)
 
 -- where replies come back, all batches are answered
 pub answered_all : (base : State) (old new : ReaderState) (batches : List (List Change)) (result : Result (Vec CommitReply) AllocError) (replies : Vec CommitReply) → result ≡ Ok replies
@@ -70,7 +65,3 @@ refused_run base writer batches workers old new replies (NotOpened error) is ans
 refused_run base writer batches workers old new replies (NotRun run.NoMemory) is answers refuses = tt
 refused_run base writer batches workers old new replies (NotRun run.Closed) is answers refuses = (all_answered base writer batches old new replies is answers, refuses)
 refused_run base writer batches workers old new replies (NotRun run.BadWorkers) is answers refuses = (all_answered base writer batches old new replies is answers, refuses)
-
--- a reader more than there are programs
-pub one_more : (n : ℕ) (passes : List ReaderState) → passes ≡ fresh_readers (n + 1) → passes ≡ fresh_readers (suc n)
-one_more n passes are = let more : n + 1 ≡ suc n = omega arith in are ∙ ap fresh_readers more

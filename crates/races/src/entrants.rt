@@ -53,15 +53,11 @@ pub(crate) fn entrants<'a, J: Naming>(
     requires { length readers.items ≡ length plans.now }
     ensures { IfOk result (λ all. map (λ e. e.plan.now) all.items ≡ map (λ p. p.now) plans.now) }
 {
-    let mut readers = readers;
-    let mut all = Vec::with_capacity(alloc, plans.len())?;
-    'plans: for plan in plans {
-        let Some(reader) = readers.pop() else {
-            unreachable!()
-        };
-        all.push(Entrant { plan, reader })?;
-    }
-    Ok(all)
+    plans
+        .iter()
+        .zip(readers)
+        .map(|(plan, reader)| Entrant { plan, reader })
+        .collect(alloc)
 }
 
 impl<'a, J: Naming> Entrant<'a, J> {

@@ -1,8 +1,8 @@
 //! The run of a race, on threads.
-ghost use Rattle.std.specs.Prelude.{◌≡◌, ◌+◌, [], IfErr, IfOk, length, map, suc};
+ghost use Rattle.std.specs.Prelude.{◌≡◌, ◌+◌, IfErr, IfOk, length, map};
 ghost use Rattle.std.specs.List.{All};
 ghost use Rattle.version_list.specs.Machine.{opened};
-ghost use Rattle.shared_graph.specs.Histories.{fresh_readers};
+ghost use Rattle.shared_graph.specs.Histories.{fresh_reader, fresh_readers};
 ghost use Rattle.races.specs.Race.{AllRan, IsRace, MayRun};
 ghost use Rattle.races.specs.RaceScript.{MayOpen, RefusesOnGraph, RefusesRace};
 ghost use Rattle.races.specs.inside.Racing.{AllRanEarly, AnswersAll, IsRaced, RanEarly, RefusesRuns, RepliesTo};
@@ -77,11 +77,11 @@ fn race_known<J: Naming + Send + Sync, T: Threads + Wait + Sync>(
         chunk_size,
         batches,
     } = script;
-    let seats = programs.plans.len() + 1;
-    let (graph, readers) = SharedGraph::<J, &T>::open(
-        rt, alloc, opening, vertices, chunk_size, seats,
+    let others = programs.plans.len();
+    let (graph, readers, writer) = SharedGraph::<J, &T>::open_with_writer(
+        rt, alloc, opening, vertices, chunk_size, others,
     )?;
-    let (replies, runs) = race_on(rt, alloc, &graph, readers, batches, programs)?;
+    let (replies, runs) = race_on(rt, alloc, &graph, writer, readers, batches, programs)?;
     Ok(Race {
         vertices,
         replies,
@@ -89,16 +89,18 @@ fn race_known<J: Naming + Send + Sync, T: Threads + Wait + Sync>(
     })
 }
 
-// The replies of the commits, and the runs of the programs. The last of the readers commits.
+// The replies of the commits, and the runs of the programs, each with one of the readers.
 fn race_on<J: Naming + Send + Sync, T: Threads + Wait + Sync>(
     rt: &T,
     alloc: Global,
     graph: &SharedGraph<J, &T>,
+    writer: Reader<J>,
     readers: Vec<Reader<J>>,
     batches: Vec<Batch>,
     programs: PlannedRuns<'_>,
 ) -> Result<(Vec<CommitReply>, Vec<ProgramRuns>), RaceError>
-    requires { readers.items ≡ fresh_readers (suc (length programs.plans.now)) }
+    requires writer { writer ≡ fresh_reader (length programs.plans.now) }
+    requires readers { readers.items ≡ fresh_readers (length programs.plans.now) }
     ensures raced { IfOk result (IsRaced J.vertices J.room batches.items (map (λ p. p.now) programs.entry.plans.now) programs.entry.turns) }
     ensures workers { IfOk result (λ raced. MayRun programs.entry.workers raced.1.items) }
     ensures refused { IfErr result (RefusesOnGraph (opened J.vertices J.room) batches.items programs.entry.workers) }
@@ -108,10 +110,6 @@ fn race_on<J: Naming + Send + Sync, T: Threads + Wait + Sync>(
         workers,
         turns,
     } = programs;
-    let mut readers = readers;
-    let Some(writer) = readers.pop() else {
-        unreachable!()
-    };
     let entrants = entrants(alloc, readers, plans)?;
     let (ran, (writer, answered)) = join(
         rt,

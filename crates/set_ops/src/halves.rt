@@ -4,7 +4,6 @@ ghost use Rattle.std.specs.Prelude.{◌≡◌, IfOk};
 ghost use Rattle.std.specs.Map.{keys_of};
 ghost use Rattle.ascending_lists.specs.Ascending.{Ascends};
 ghost use Rattle.ascending_lists.specs.MapOperations.{without_keys};
-ghost use Rattle.c_tree.specs.Chunks.{HasNoHead};
 ghost use Rattle.set_ops.specs.inside.Answers.{IsCombined};
 ghost use Rattle.set_ops.specs.inside.Halving.{IsBegun};
 

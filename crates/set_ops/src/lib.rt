@@ -17,12 +17,15 @@
 //! each head.
 //!
 //! `insert_all` takes entries in place of the second set, `remove_all` ascending keys, and both refuse
-//! keys that do not ascend. The list is cut at the heads of the set, so that only the way down to the
+//! keys that do not ascend; `insert_ascending` and `remove_ascending` take keys of which the caller knows
+//! that they do. The list is cut at the heads of the set, so that only the way down to the
 //! chunks that it reaches is made anew. A second set that has no head is taken as such a list too, and
 //! so is a first one: a union then continues with the two exchanged, and keeps the first's weights.
 //!
 //! `union_forked` and `difference_forked` give the same answers, with the halves on two threads at the
-//! first levels; a `Fork` is called with each half that begins. Only they need a handle of threads.
+//! first levels; a `Fork` is called with each half that begins. `same_size_union_forked` and
+//! `same_size_difference_forked` take sets of which the caller knows that they have one chunk size. Only
+//! these four need a handle of threads.
 //!
 //! Graphs depend on this crate, where a batch changes the neighbours of a vertex that has many. The recursion
 //! is that of "Just Join for Parallel Ordered Sets" (Blelloch, Ferizovic, Sun, SPAA 2016) as Aspen has it
@@ -42,5 +45,8 @@ mod with_list;
 
 pub use error::SetError;
 pub use fork::{Fork, Forking, Quiet};
-pub use lists::{insert_all, remove_all};
-pub use sets::{MAX_FORKS, difference, difference_forked, union, union_forked};
+pub use lists::{insert_all, insert_ascending, remove_all, remove_ascending};
+pub use sets::{
+    MAX_FORKS, difference, difference_forked, same_size_difference_forked, same_size_union_forked,
+    union, union_forked,
+};

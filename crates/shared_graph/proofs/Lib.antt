@@ -2,6 +2,7 @@ pub mod Prefixes
 pub mod Adding
 pub mod Publishing
 pub mod Growing
+pub mod Fresh
 pub mod Steps
 pub mod Crossing
 pub mod Versions

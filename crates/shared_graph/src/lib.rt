@@ -29,6 +29,7 @@ mod history_prefix;
 mod laws;
 mod locked_state;
 mod naming;
+mod never;
 mod published_log;
 mod publisher;
 mod reader;

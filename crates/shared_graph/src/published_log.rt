@@ -14,6 +14,7 @@ use crate::book::{Book, Opening};
 use crate::error::SharedError;
 use crate::history_prefix::HistoryPrefix;
 use crate::naming::Naming;
+use crate::never::never;
 use crate::publisher::Publisher;
 use crate::reader::Reader;
 use crate::shown::Shown;
@@ -71,7 +72,7 @@ impl<J: Naming, R: Wait + Drop> Model for PublishedLog<J, R> {
 
 impl<J: Naming, R: Wait + Drop> PublishedLog<J, R> {
     /// The log of a history that has not begun, with its readers, 1 to 64, to whom version 0 is
-    /// published.
+    /// published. The last of the readers is apart from the others.
     ///
     /// Errors: `AllocError` where there is no memory, or no place for a reader.
     pub(crate) fn open(
@@ -81,19 +82,20 @@ impl<J: Naming, R: Wait + Drop> PublishedLog<J, R> {
         start: HistoryStart,
         graph: Arc<Graph>,
         readers: usize,
-    ) -> Result<(PublishedLog<J, R>, Vec<Reader<J>>), AllocError>
+    ) -> Result<(PublishedLog<J, R>, Vec<Reader<J>>, Reader<J>), AllocError>
         requires book { opening ≡ J.book }
         requires base { opened J.vertices J.room ≡ opened start.vertices start.room }
         requires newest { IsNewest (state_at (opened J.vertices J.room) []) 0 (arc_value graph) }
         requires readers { (0 < readers) × (readers ≤ 64) }
         ensures published_log { IfOk result (λ r. r.0 ≡ []) }
-        ensures readers { IfOk result (λ r. r.1.items ≡ fresh_readers readers) }
+        ensures readers { IfOk result (λ r. r.1.items ++ r.2 ∷ [] ≡ fresh_readers readers) }
     {
         let HistoryStart { vertices, room } = start;
         let (book, history_prefix) = opening.named::<J>();
         let shown = Shown::new(vertices, room, 0, graph, &history_prefix);
         let mut publisher = Publisher::new(alloc, rt, shown, readers)?;
-        let passes = fresh_readers(alloc, &mut publisher, &history_prefix, readers)?;
+        let others = fresh_readers(alloc, &mut publisher, &history_prefix, readers - 1)?;
+        let last = Reader::new(readers as u64 - 1, publisher.reader()?, &history_prefix);
         let counts = Vec::from_elem(alloc, 0, readers)?;
         let published_log = PublishedLog {
             vertices,
@@ -103,7 +105,7 @@ impl<J: Naming, R: Wait + Drop> PublishedLog<J, R> {
             counts,
             publisher,
         };
-        Ok((published_log, passes))
+        Ok((published_log, others, last))
     }
 
     /// The newest version, which is the one that is published.
@@ -248,14 +250,6 @@ fn extend<J: Naming, T: Wait>(
     if !history_prefix.add(book, reader as u64, done) {
         never(rt);
     }
-}
-
-// Does not return.
-fn never<T: Wait>(rt: &T)
-    ensures { ⊥ }
-{
-    for _ in rt.forever() {}
-    unreachable!()
 }
 
 // So many readers, numbered from 0, that have shown nothing.

@@ -4,6 +4,7 @@ ghost use Rattle.std.specs.Prelude.{◌≡◌, ◌<◌, ◌≤◌, ◌^◌, ◌+
 ghost use Rattle.left_right.specs.Sides.{view as view_of};
 ghost use Rattle.shared_graph.specs.inside.Publishing.{Published, GoesOn, latest};
 
+use crate::never::never;
 use crate::shown::Shown;
 use atomic_table::{Join, Split};
 use core::mem::replace_with;
@@ -145,7 +146,7 @@ fn append<R: Wait>(writer: &mut ShownWriter, rt: &R, next: Shown)
             Err(back) => next = back,
         }
     }
-    unreachable!()
+    never(rt);
 }
 
 // Publishes what is pending, which is retried where it could not be shared once more.
@@ -161,7 +162,7 @@ fn publish<R: Wait>(writer: &mut ShownWriter, rt: &R)
             return;
         }
     }
-    unreachable!()
+    never(rt);
 }
 
 // Publishes what is pending, and says whether it did.

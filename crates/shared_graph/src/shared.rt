@@ -1,6 +1,6 @@
 //! Graphs that threads share.
 
-ghost use Rattle.std.specs.Prelude.{◌≡◌, ◌<◌, ◌≤◌, IfOk};
+ghost use Rattle.std.specs.Prelude.{◌≡◌, ◌+◌, ◌<◌, ◌≤◌, ◌∷◌, [], ◌++◌, IfOk};
 ghost use Rattle.version_list.specs.declared.step.Step.TheVariants.{Commit, Acquire, Trim};
 ghost use Rattle.version_list.specs.declared.step.Reply.TheVariants as reply;
 ghost use Rattle.version_list.specs.Machine.{opened};
@@ -94,14 +94,64 @@ impl<J: Naming, R: Wait + Drop> SharedGraph<J, R> {
         requires room { J.room ≡ room }
         ensures { Opens vertices chunk_size readers (λ r. r.1.items) result }
     {
+        let (graph, others, last) = SharedGraph::open_apart(
+            rt, alloc, opening, vertices, chunk_size, readers, room,
+        )?;
+        let mut readers = others;
+        readers.push(last)?;
+        Ok((graph, readers))
+    }
+
+    /// Opens a graph as [`SharedGraph::open`] does, with one reader more than `others`, which is the
+    /// last and apart from the others: that of a caller who commits while the others read.
+    ///
+    /// # Example
+    ///
+    /// ```
+    /// let (graph, readers, writer) = SharedGraph::<J, &T>::open_with_writer(
+    ///     rt, alloc, opening, vertices, chunk_size, programs.plans.len(),
+    /// )?;
+    /// ```
+    pub fn open_with_writer(
+        rt: R,
+        alloc: Global,
+        opening: Opening,
+        vertices: u32,
+        chunk_size: u32,
+        others: usize,
+    ) -> Result<(SharedGraph<J, R>, Vec<Reader<J>>, Reader<J>), SharedError>
+        requires book { opening ≡ J.book }
+        requires vertices { J.vertices ≡ vertices }
+        requires room { J.room ≡ 16777216 }
+        ensures { Opens vertices chunk_size (others + 1) (λ r. r.1.items ++ r.2 ∷ []) result }
+    {
+        let (readers, room) = (others.saturating_add(1), MAX_HISTORY);
+        SharedGraph::open_apart(rt, alloc, opening, vertices, chunk_size, readers, room)
+    }
+
+    // Opens a graph, with the last of its readers apart from the others.
+    fn open_apart(
+        rt: R,
+        alloc: Global,
+        opening: Opening,
+        vertices: u32,
+        chunk_size: u32,
+        readers: usize,
+        room: u64,
+    ) -> Result<(SharedGraph<J, R>, Vec<Reader<J>>, Reader<J>), SharedError>
+        requires book { opening ≡ J.book }
+        requires vertices { J.vertices ≡ vertices }
+        requires room { J.room ≡ room }
+        ensures { Opens vertices chunk_size readers (λ r. r.1.items ++ r.2 ∷ []) result }
+    {
         let versions = versions_for(alloc, vertices, chunk_size, readers, room)?;
         let graph = Arc::new(alloc, versions.newest().1.clone()?)?;
         let start = HistoryStart { vertices, room };
-        let (published_log, passes) = PublishedLog::open(
+        let (published_log, others, last) = PublishedLog::open(
             rt, alloc, opening, start, graph, readers,
         )?;
         let locked_state = Mutex::new(LockedState::new(versions, published_log));
-        Ok((SharedGraph { locked_state }, passes))
+        Ok((SharedGraph { locked_state }, others, last))
     }
 
     /// Makes the next version by a batch, also by an empty one, in the name of a reader, and answers

@@ -22,7 +22,6 @@ pub struct EdgeIter<'a> {
 
 impl<'a> Model for EdgeIter<'a> {
     ghost use Rattle.std.specs.Prelude.{List, ◌++◌};
-    ghost use Rattle.vertex_blocks.specs.Blocks.{AreNeighbourLists};
     ghost use Rattle.weighted_edges.specs.Edge.{Edge};
     ghost use Rattle.tree_batch.specs.Neighbours.{edges_of};
     ghost use Rattle.tree_batch.specs.inside.Neighbours.{edges_left};
@@ -30,8 +29,6 @@ impl<'a> Model for EdgeIter<'a> {
     ghost Value = { List Edge };
 
     ghost view = { λ i. edges_left i.source i.destinations ++ edges_of i.vertices };
-
-    ghost invariant = { λ i. AreNeighbourLists i.vertices };
 }
 
 impl<'a> EdgeIter<'a> {
@@ -56,18 +53,15 @@ impl<'a> Iterator for EdgeIter<'a> {
     ghost remaining = { item_count (λ i. i) };
 
     fn next(&mut self) -> Option<(u32, u32, i64)> {
-        if let Some(destinations) = &mut self.destinations {
-            if let Some((destination, weight)) = destinations.next() {
-                return Some((self.source, destination, weight));
+        'rounds: loop {
+            if let Some(destinations) = &mut self.destinations {
+                if let Some((destination, weight)) = destinations.next() {
+                    return Some((self.source, destination, weight));
+                }
             }
+            let (source, neighbours) = self.vertices.next()?;
+            self.source = source;
+            self.destinations = Some(neighbours.iter());
         }
-        let (source, neighbours) = self.vertices.next()?;
-        let mut destinations = neighbours.iter();
-        let Some((destination, weight)) = destinations.next() else {
-            unreachable!()
-        };
-        self.source = source;
-        self.destinations = Some(destinations);
-        Some((source, destination, weight))
     }
 }

@@ -55,18 +55,15 @@ impl<'a> Iterator for AdjacencyIter<'a> {
     ghost remaining = { item_count (λ i. i) };
 
     fn next(&mut self) -> Option<(u32, NeighbourSet<'a>)> {
-        if let Some(vertices) = &mut self.vertices {
-            if let Some((vertex, neighbours)) = vertices.next() {
-                return Some((BLOCK_SIZE * self.number + vertex, neighbours));
+        'rounds: loop {
+            if let Some(vertices) = &mut self.vertices {
+                if let Some((vertex, neighbours)) = vertices.next() {
+                    return Some((BLOCK_SIZE * self.number + vertex, neighbours));
+                }
             }
+            let (number, block) = self.rest.next()?;
+            self.number = number;
+            self.vertices = Some(block.iter());
         }
-        let (number, block) = self.rest.next()?;
-        let mut vertices = block.iter();
-        let Some((vertex, neighbours)) = vertices.next() else {
-            unreachable!()
-        };
-        self.number = number;
-        self.vertices = Some(vertices);
-        Some((BLOCK_SIZE * number + vertex, neighbours))
     }
 }

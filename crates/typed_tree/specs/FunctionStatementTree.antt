@@ -5,6 +5,8 @@ use Rattle.typed_tree.specs.declared.expression.VarRef.{VarRef}
 use Rattle.typed_tree.specs.declared.function.FunctionStatement.{FunctionStatement, Row_of-FunctionStatement, end_of-FunctionStatement}
 use Rattle.typed_tree.specs.declared.function.FunctionStatement.{more_of-FunctionStatement}
 use Rattle.typed_tree.specs.declared.function.FunctionStatement.TheVariants as rust
+use Rattle.typed_tree.specs.declared.function.VariableStatement.{VariableStatement}
+use Rattle.typed_tree.specs.declared.function.VariableStatement.TheVariants as variable
 use Rattle.typed_tree.specs.declared.function.Function.{Function}
 use Rattle.typed_tree.specs.IntExpressionTree.{IntExpressionTree, int_expression_tree}
 use Rattle.typed_tree.specs.BoolExpressionTree.{BoolExpressionTree, bool_expression_tree}
@@ -32,14 +34,18 @@ pub record FunctionTree : Type 0 where
   pub name : ℕ
   pub steps : FunctionStatementsTree
 
+-- the tree of a statement that declares a variable or changes one
+abbrev pub variable_statement_tree : VariableStatement → FunctionStatementTree
+variable_statement_tree (variable.DeclareInt name e) = DeclareInt name (int_expression_tree e)
+variable_statement_tree (variable.DeclareBool name c) = DeclareBool name (bool_expression_tree c)
+variable_statement_tree (variable.SetInt slot e) = SetInt slot (int_expression_tree e)
+variable_statement_tree (variable.SetBool slot c) = SetBool slot (bool_expression_tree c)
+variable_statement_tree (variable.ReduceInt slot reduction e) = ReduceInt slot reduction (int_expression_tree e)
+
 -- the tree that a Rust tree is
 abbrev mutual
   pub function_statement_tree : FunctionStatement → FunctionStatementTree
-  function_statement_tree (rust.DeclareInt name e) = DeclareInt name (int_expression_tree e)
-  function_statement_tree (rust.DeclareBool name c) = DeclareBool name (bool_expression_tree c)
-  function_statement_tree (rust.SetInt slot e) = SetInt slot (int_expression_tree e)
-  function_statement_tree (rust.SetBool slot c) = SetBool slot (bool_expression_tree c)
-  function_statement_tree (rust.ReduceInt slot reduction e) = ReduceInt slot reduction (int_expression_tree e)
+  function_statement_tree (rust.Variable s) = variable_statement_tree s
   function_statement_tree (rust.SetEntry vector e) = SetEntry vector (int_expression_tree e)
   function_statement_tree (rust.ReduceEntry vector reduction e) = ReduceEntry vector reduction (int_expression_tree e)
   function_statement_tree (rust.If' c shape body) = If (bool_expression_tree c) (steps_row body)

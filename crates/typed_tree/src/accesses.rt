@@ -3,13 +3,13 @@ ghost use Rattle.std.specs.Prelude.{◌≡◌, ◌++◌, Bool, map, OnOk};
 ghost use Rattle.typed_tree.specs.declared.accesses.Access.{Access};
 ghost use Rattle.typed_tree.specs.IntExpressionTree.{int_expression_tree};
 ghost use Rattle.typed_tree.specs.BoolExpressionTree.{bool_expression_tree};
-ghost use Rattle.typed_tree.specs.FunctionStatementTree.{function_tree, function_statement_tree, function_statements_tree};
+ghost use Rattle.typed_tree.specs.FunctionStatementTree.{function_tree, function_statement_tree, function_statements_tree, variable_statement_tree};
 ghost use Rattle.typed_tree.specs.Fold.{all_pass, condition_fold, conditions_fold, end_fold, function_fold, integer_fold, operands_fold, step_fold, steps_fold};
 ghost use Rattle.typed_tree.specs.Independence.{function_writes};
 ghost use Rattle.typed_tree.specs.inside.Access.{step_writes, steps_write};
 
 use crate::expression::{BoolExpression, IntExpression, Operand};
-use crate::function::{Function, FunctionStatement};
+use crate::function::{Function, FunctionStatement, VariableStatement};
 use crate::statement::VertexFilter;
 use std::alloc::AllocError;
 
@@ -123,18 +123,27 @@ fn step_passes<T: AccessTest>(step: &FunctionStatement, test: &T) -> bool
     ensures { result ≡ step_fold (all_pass (T.passes test.now)) (function_statement_tree step.now) }
 {
     match step {
-        FunctionStatement::DeclareInt(_, e)
-        | FunctionStatement::SetInt(_, e)
-        | FunctionStatement::ReduceInt(_, _, e) => integer_passes(e, test),
-        FunctionStatement::DeclareBool(_, c) | FunctionStatement::SetBool(_, c) => condition_passes(
-            c, test,
-        ),
+        FunctionStatement::Variable(statement) => variable_passes(statement, test),
         FunctionStatement::SetEntry(vector, e) | FunctionStatement::ReduceEntry(vector, _, e) => {
             test.passes(Access::Write(*vector)) && integer_passes(e, test)
         }
         FunctionStatement::If(c, body) => condition_passes(c, test) && steps_pass(body, test),
         FunctionStatement::IfElse(c, body, other) => {
             condition_passes(c, test) && (steps_pass(body, test) && steps_pass(other, test))
+        }
+    }
+}
+
+/// Whether each access of a statement on a variable passes.
+fn variable_passes<T: AccessTest>(statement: &VariableStatement, test: &T) -> bool
+    ensures { result ≡ step_fold (all_pass (T.passes test.now)) (variable_statement_tree statement.now) }
+{
+    match statement {
+        VariableStatement::DeclareInt(_, e)
+        | VariableStatement::SetInt(_, e)
+        | VariableStatement::ReduceInt(_, _, e) => integer_passes(e, test),
+        VariableStatement::DeclareBool(_, c) | VariableStatement::SetBool(_, c) => {
+            condition_passes(c, test)
         }
     }
 }

@@ -11,7 +11,8 @@
 //! `specs/` defines one kind, as `IntExpressionTree` or `BlockTree`, and says which one a Rust tree is. A
 //! [`Sequence`] is a `Vec` that contracts see as a list. Operators in a row are one list in the Rust tree, and
 //! signs in a row one count, so that no code recurses by their number; the pure trees nest. Statements of `main`
-//! without blocks are of a type of their own, [`SimpleStatement`]; a pure tree has all kinds of statements in one type.
+//! without blocks are of a type of their own, [`SimpleStatement`], and so are statements of functions on variables,
+//! [`VariableStatement`]; a pure tree has all kinds of statements in one type.
 //!
 //! `specs/Resolved.antt` says what it is for each index in a program to be that of something that is there, and for
 //! entries at an index to be in `main` alone (`IsResolved`). The checker's programs are so by a law of `types`.
@@ -41,7 +42,7 @@ pub use expression::{
     BoolExpression, ComparisonOperator, Connective, Endpoint, IntExpression, Operand, Operator,
     VarRef,
 };
-pub use function::{Function, FunctionStatement};
+pub use function::{Function, FunctionStatement, VariableStatement};
 pub use program::{InitialValue, ScheduleCall, Typed, Vector};
 pub use sequence::{Name, Sequence};
 pub use statement::{

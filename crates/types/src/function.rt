@@ -23,7 +23,7 @@ use expression_types::{
 };
 use std::alloc::{AllocError, Global};
 use syntax::{DeclaredType, Ends, Expression, Initial, Name, Parameter};
-use typed_tree::{BoolExpression, Endpoint, FunctionStatement, IntExpression};
+use typed_tree::{BoolExpression, Endpoint, FunctionStatement, IntExpression, VariableStatement};
 
 /// What is in place of a faulty statement.
 fn nothing(alloc: Global) -> FunctionStatement
@@ -107,13 +107,15 @@ fn declaration(
         DeclaredType::Int => {
             let value = initializer.into_integer(at, first_fault);
             let slot = checker.integer_slot();
-            let step = FunctionStatement::DeclareInt(slot.name, value);
+            let step = FunctionStatement::Variable(VariableStatement::DeclareInt(slot.name, value));
             (Entity::IntVariable(slot), step)
         }
         DeclaredType::Bool => {
             let value = initializer.into_condition(at, first_fault);
             let slot = checker.condition_slot();
-            let step = FunctionStatement::DeclareBool(slot.name, value);
+            let step = FunctionStatement::Variable(VariableStatement::DeclareBool(
+                slot.name, value,
+            ));
             (Entity::BoolVariable(slot), step)
         }
         DeclaredType::VertexSet
@@ -151,12 +153,13 @@ fn assign_initializer(
     ensures { outcome first_fault.old (assigned_step at (initializer_tree initializer) entity) ≡ (function_statement_tree result, first_fault.new) }
 {
     match entity {
-        Entity::IntVariable(slot) => FunctionStatement::SetInt(
-            slot,
-            initializer.into_integer(at, first_fault),
-        ),
+        Entity::IntVariable(slot) => {
+            let value = initializer.into_integer(at, first_fault);
+            FunctionStatement::Variable(VariableStatement::SetInt(slot, value))
+        }
         Entity::BoolVariable(slot) => {
-            FunctionStatement::SetBool(slot, initializer.into_condition(at, first_fault))
+            let value = initializer.into_condition(at, first_fault);
+            FunctionStatement::Variable(VariableStatement::SetBool(slot, value))
         }
         Entity::Error => nothing(alloc),
         _ => wrong(at, alloc, first_fault),
@@ -192,7 +195,8 @@ fn reduce_value(
 {
     match entity {
         Entity::IntVariable(slot) => {
-            FunctionStatement::ReduceInt(slot, by, integer_of(at, value, first_fault))
+            let value = integer_of(at, value, first_fault);
+            FunctionStatement::Variable(VariableStatement::ReduceInt(slot, by, value))
         }
         Entity::Error => nothing(alloc),
         _ => wrong(at, alloc, first_fault),

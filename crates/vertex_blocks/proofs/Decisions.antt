@@ -1,10 +1,9 @@
 -- Sets that updates of one vertex make of others, by additions and removals.
-use Rattle.std.proofs.Common.{◌≡◌, ℕ, ℤ, ◌+◌, ◌^◌, ◌<◌, ◌≤◌, Bool, true, false, inl, inr, Option, None, if◌then◌else◌, List, [], ◌∷◌, ◌++◌, length, get_or, drop, append_assoc, Result, Ok, Err, IfOk}
-use Rattle.std.proofs.Common.{refl, sym, ◌∙◌, ap, subst, arith}
+use Rattle.std.proofs.Common.{◌≡◌, ℕ, ℤ, ◌+◌, ◌^◌, ◌<◌, ◌≤◌, Bool, true, false, inl, inr, Option, None, if◌then◌else◌, List, [], ◌∷◌, ◌++◌, length, get_or, drop, append_assoc}
+use Rattle.std.proofs.Common.{refl, sym, ◌∙◌, ap, arith}
 use Rattle.std.specs.List.{Contains}
 use Rattle.std.specs.Map.{keys_of}
 use Rattle.std.specs.Option.{option_or}
-use Rattle.std.specs.declared.alloc.AllocError.{AllocError}
 use Rattle.std.proofs.lemmas.Bool.{cases_Bool, cases_eq, true≢false, eq-eqb, ne_eqb}
 use Rattle.std.proofs.lemmas.List.{append-nil, drop_all, drop_more}
 use Rattle.ascending_lists.specs.Ascending.{AscendsFrom, Ascends}
@@ -20,8 +19,6 @@ use Rattle.ascending_lists.proofs.MapValues.{same_entries}
 use Rattle.edge_updates.specs.declared.edge_update.EdgeUpdate.{EdgeUpdate}
 use Rattle.edge_updates.specs.EdgeUpdate.{neighbour_of, adds}
 use Rattle.c_tree.specs.Chunks.{ChunkedSet, IsSetOf}
-use Rattle.set_ops.specs.declared.error.SetError.{SetError}
-use Rattle.set_ops.specs.Outcome.{Inserts, Removes, Unites, Subtracts}
 use Rattle.pages.specs.Updates.{added, updated, weight_decided, NeighboursAscend}
 use Rattle.pages.proofs.Merging.{neighbour_small, added_ascends, updated_ascends}
 use Rattle.pages.proofs.Deciding.{updated_weight}
@@ -94,26 +91,12 @@ updated_set xs us s t =
 pub parted_end : {B : Type 0} (n : ℕ) (f : List (EdgeUpdate × ℤ) → List B) (us : List (EdgeUpdate × ℤ)) (xs : List B) → f [] ≡ [] → length us ≤ n → xs ++ f (drop n us) ≡ f us → xs ≡ f us
 parted_end n f us xs none le is = sym (append-nil xs) ∙ ap (λ ys. xs ++ ys) (sym none ∙ ap f (sym (drop_all n us le))) ∙ is
 
--- what two steps of set operations gave
-pub set_updated : (r : Result ChunkedSet AllocError) (grown rest : Result ChunkedSet SetError) (a g : ChunkedSet) (more : List (ℕ × ℤ)) (fewer : List ℕ) (us : List (EdgeUpdate × ℤ))
-    → Ascends None (keys_of a.entries) → NeighboursAscend 0 us → more ≡ added_in us → fewer ≡ removed_in us → Inserts a more grown → grown ≡ Ok g → Removes g fewer rest → IfOk r (λ t. rest ≡ Ok t)
-    → IfOk r (λ t. t.entries ≡ updated a.entries us)
-set_updated (Ok t) grown rest a g more fewer us s u is_added is_removed inserts made removes is =
-    let first : IsSetOf (union_keeping_second a.entries more) a.chunk_size g = (subst (Inserts a more) made inserts).1 in
-    let second : IsSetOf (without_keys g.entries fewer) g.chunk_size t = (subst (Removes g fewer) is removes).1 in
+-- the set with what is added, and then without what is removed
+pub set_updated : (t a g : ChunkedSet) (more : List (ℕ × ℤ)) (fewer : List ℕ) (us : List (EdgeUpdate × ℤ)) → Ascends None (keys_of a.entries) → NeighboursAscend 0 us → more ≡ added_in us
+    → fewer ≡ removed_in us → IsSetOf (union_keeping_second a.entries more) a.chunk_size g → IsSetOf (without_keys g.entries fewer) g.chunk_size t → t.entries ≡ updated a.entries us
+set_updated t a g more fewer us s u is_added is_removed first second =
     second.entries ∙ ap (λ xs. without_keys xs fewer) first.entries ∙ ap (λ xs. without_keys (union_keeping_second a.entries xs) fewer) is_added
     ∙ ap (without_keys (union_keeping_second a.entries (added_in us))) is_removed ∙ updated_set a.entries us s u
-set_updated (Err e) grown rest a g more fewer us s u is_added is_removed inserts made removes is = tt
-
-pub sets_updated : (r : Result ChunkedSet AllocError) (grown rest : Result ChunkedSet SetError) (a m g f : ChunkedSet) (us : List (EdgeUpdate × ℤ)) → Ascends None (keys_of a.entries)
-    → NeighboursAscend 0 us → m.entries ≡ added_in us → keys_of f.entries ≡ removed_in us → Unites a m grown → grown ≡ Ok g → Subtracts g f rest → IfOk r (λ t. rest ≡ Ok t)
-    → IfOk r (λ t. t.entries ≡ updated a.entries us)
-sets_updated (Ok t) grown rest a m g f us s u more fewer unites made subtracts is =
-    let first : IsSetOf (union_keeping_second a.entries m.entries) a.chunk_size g = (subst (Unites a m) made unites).1 in
-    let second : IsSetOf (without_keys g.entries (keys_of f.entries)) g.chunk_size t = (subst (Subtracts g f) is subtracts).1 in
-    second.entries ∙ ap (λ xs. without_keys xs (keys_of f.entries)) first.entries ∙ ap (λ xs. without_keys (union_keeping_second a.entries xs) (keys_of f.entries)) more
-    ∙ ap (without_keys (union_keeping_second a.entries (added_in us))) fewer ∙ updated_set a.entries us s u
-sets_updated (Err e) grown rest a m g f us s u more fewer unites made subtracts is = tt
 
 -- one update more in a walk over them
 module _ (us : List (EdgeUpdate × ℤ)) (i : ℕ) (u : EdgeUpdate) (w : ℤ) (lt : i < length us) (at : (u, w) ≡ get_or us i no_update) where

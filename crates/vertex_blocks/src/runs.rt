@@ -1,17 +1,19 @@
 //! Lists and sets that updates of one vertex make of others.
 
-ghost use Rattle.std.specs.Prelude.{◌≡◌, None, Ok, IfOk, IfErr};
+ghost use Rattle.std.specs.Prelude.{◌≡◌, None, IfOk};
 ghost use Rattle.std.specs.Map.{keys_of};
 ghost use Rattle.ascending_lists.specs.Ascending.{Ascends, AscendsFrom};
 ghost use Rattle.c_tree.specs.Chunks.{IsSetOf};
 ghost use Rattle.pages.specs.Updates.{updated, NeighboursAscend};
-ghost use Rattle.set_ops.specs.declared.error.SetError.TheVariants.{NoMemory};
 ghost use Rattle.vertex_blocks.specs.inside.Runs.{added_in, removed_in};
 
 use c_tree::{CTree, ChunkSize, Part};
 use edge_updates::Updates;
 use pages::{EntryColumns, Neighbours, merge};
-use set_ops::{Fork, Forking, SetError, difference_forked, insert_all, remove_all, union_forked};
+use set_ops::{
+    Fork, Forking, insert_ascending, remove_ascending, same_size_difference_forked,
+    same_size_union_forked,
+};
 use std::alloc::{AllocError, Global};
 use std::thread::Threads;
 use tail_codec::{Entries, EntryList};
@@ -87,8 +89,8 @@ pub(crate) fn update_set(
 {
     prove!(set.len() <= 1 << 32);
     let (added, removed) = parts(alloc, updates)?;
-    let grown = united(insert_all(alloc, set, &added.lent()))?;
-    united(remove_all(alloc, &grown, &removed))
+    let grown = insert_ascending(alloc, set, &added.lent())?;
+    remove_ascending(alloc, &grown, &removed)
 }
 
 /// As `update_set`, with halves of the set on two threads as `forking` says.
@@ -110,9 +112,9 @@ pub(crate) fn update_set_forked<R: Threads + Sync, F: Fork + Sync>(
     };
     let (added, removed) = parts(alloc, updates)?;
     let more = make_set(alloc, set.chunk_size(), &added.lent())?;
-    let grown = united(union_forked(rt, alloc, set, &more, forks, &fork))?;
+    let grown = same_size_union_forked(rt, alloc, set, &more, forks, &fork)?;
     let fewer = make_set(alloc, set.chunk_size(), &Entries::of_keys(&removed))?;
-    united(difference_forked(rt, alloc, &grown, &fewer, forks, &fork))
+    same_size_difference_forked(rt, alloc, &grown, &fewer, forks, &fork)
 }
 
 /// Tells another of forks, whose levels begin at `level`.
@@ -174,16 +176,4 @@ pub(crate) fn collect(set: &CTree, list: &mut EntryColumns) -> Result<(), AllocE
         list.push(neighbour, weight)?;
     }
     Ok(())
-}
-
-/// The set that operations gave whose only error is out of memory.
-fn united(set: Result<CTree, SetError>) -> Result<CTree, AllocError>
-    requires { IfErr set (λ e. e ≡ NoMemory) }
-    ensures { IfOk result (λ t. set ≡ Ok t) }
-{
-    match set {
-        Ok(set) => Ok(set),
-        Err(SetError::NoMemory) => Err(AllocError),
-        Err(SetError::NotAscending | SetError::ChunkSizesDiffer) => unreachable!(),
-    }
 }

@@ -4,7 +4,6 @@ use Rattle.syntax.specs.declared.declaration.Source.{Source}
 use Rattle.syntax.specs.SourceTrees.{SourceTree}
 use Rattle.syntax.specs.SourceViews.{source_tree}
 use Rattle.parser.specs.declared.syntax_error.SyntaxError.{SyntaxError}
-use Rattle.parser.specs.declared.error.ParseError.TheVariants.{Unexpected, NoMemory}
 use Rattle.parser.specs.declared.syntax_error.SyntaxError.TheVariants as syntax
 
 -- the source is what the reading function gives

@@ -1,7 +1,5 @@
 -- What private contracts see of a run's state.
 use Rattle.std.specs.Prelude.{Option, Some, None, List, ℤ}
-use Rattle.typed_tree.specs.declared.function.FunctionStatement.{FunctionStatement}
-use Rattle.typed_tree.specs.declared.function.FunctionStatement.TheVariants as step
 use Rattle.plain_run.specs.declared.state.EdgeList.{EdgeList}
 use Rattle.plain_run.specs.declared.state.Environment.{Environment}
 use Rattle.plain_run.specs.declared.state.InterpreterState.{InterpreterState}
@@ -28,9 +26,3 @@ stand (Some end) s = Over s end
 -- what a function works on
 abbrev pub work_of : List (List ℤ) → FunctionFrame → WorkValue
 work_of vectors w = record { vectors = vectors; scope = scope_of w.scope; given = w.given.items }
-
--- the statement of a function has no block
-abbrev pub HasNoSteps : FunctionStatement → Type 0
-HasNoSteps (step.If' c shape body) = ⊥
-HasNoSteps (step.IfElse' c shape body shape' other) = ⊥
-HasNoSteps s = Unit

@@ -13,7 +13,7 @@ run_step-returns-then-holds t c =
     let tree = ap function_statement_tree c.in-If.is ∙ function_statement_tree-If c.in-If.c c.in-If.body in
     let w = work_of c.args.vectors.now.items c.args.frame.now in
     let holds : truth c.args.vectors.now.items c.args.sets.now (scope_of c.args.frame.now.scope) (bool_expression_tree c.in-If.c) ≡ true =
-    rw (← c.deref.ensures.value) (sym c.holds.ensures ∙ c.if-holds.true) in
+    rw (← c.deref-in-If.ensures.value) (sym c.holds.ensures ∙ c.if-holds.true) in
     let step = after_step-If_true c.args.writing c.args.sets.now (bool_expression_tree c.in-If.c) (function_statements_tree c.in-If.body.items) w holds in
     rw (tree, step, ← c.deref-then-holds.ensures.value) c.run_block.ensures
 
