@@ -131,7 +131,7 @@ fn numbers_in_slot(
 {
     let marked = slot.entries.marked(alloc)?;
     match to {
-        None => { slot.entries.numbers(alloc, &marked, context.vertices) }
+        None => slot.entries.numbers(alloc, &marked, context.vertices),
         Some(end) => {
             let mut kept = Vec::new(alloc);
             keep_passing(context, end, &marked, block, &mut kept)?;

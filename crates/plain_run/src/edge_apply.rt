@@ -138,7 +138,7 @@ fn flags_of(
 {
     match end {
         None => vec![in alloc; true; graph.vertices as usize],
-        Some(filter) => { flags_of_end(alloc, filters, graph, filter, state) }
+        Some(filter) => flags_of_end(alloc, filters, graph, filter, state),
     }
 }
 

@@ -170,8 +170,8 @@ impl<'a> Work for PushWork<'a> {
         piece: usize,
     ) -> Result<Gathered, AllocError> {
         match self.destination_words() {
-            Some(words) => { self.gather_piece(alloc, piece, Some(words), None, state) }
-            None => { self.gather_piece(alloc, piece, None, self.apply.to, state) }
+            Some(words) => self.gather_piece(alloc, piece, Some(words), None, state),
+            None => self.gather_piece(alloc, piece, None, self.apply.to, state),
         }
     }
 }
