@@ -20,13 +20,12 @@ returns-then-context-entries c =
 
 pub returns : goal.returns
 returns c =
-    IfOk-weaker c.changes-2.result _ _ (λ found told.
     let slot = c.args.slot.now in
     let lane = lane_entry c.lane-old.result in
     let e = entry c.args.context.vectors.now.vectors slot.vector in
     let marked = c.in_ok-marked.ensures in
     let same = c.deref-2.ensures.value in
-    told (subst (λ (ks : List ℕ). IsNonDecreasing ks) (sym same) marked.ascending) (subst (λ (ks : List ℕ). AreMarked slot.entries ks) (sym same) marked.given)
-    (λ v. held slot.entries v (lane v)) (λ v has. refl) (λ v l absent. marked.covers (λ h y. y) v (lane v) (λ has. absent (subst (λ (ks : List ℕ). Contains ks v) (sym same) has)))
-    ∙ changed_agree lane e (λ v. held slot.entries v (lane v)) (λ v. held slot.entries v (e v)) c.lane-old.ensures 0 c.args.context.vertices (λ v l. ap (held slot.entries v) (c.lane-old.ensures v)))
-    c.changes-2.ensures
+    IfOk-weaker c.changes.result _ _
+    (λ found told. told ∙ changed_agree lane e (λ v. held slot.entries v (lane v)) (λ v. held slot.entries v (e v)) c.lane-old.ensures 0 c.args.context.vertices (λ v l. ap (held slot.entries v) (c.lane-old.ensures v)))
+    (c.changes.ensures (subst (λ (ks : List ℕ). IsNonDecreasing ks) (sym same) marked.ascending) (subst (λ (ks : List ℕ). AreMarked slot.entries ks) (sym same) marked.given)
+    (λ v. held slot.entries v (lane v)) (λ v has. refl) (λ v l absent. marked.covers (λ h y. y) v (lane v) (λ has. absent (subst (λ (ks : List ℕ). Contains ks v) (sym same) has))))
