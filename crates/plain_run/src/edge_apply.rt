@@ -138,10 +138,7 @@ fn flags_of(
 {
     match end {
         None => vec![in alloc; true; graph.vertices as usize],
-        Some(filter) => {
-            let flags = flags_of_end(alloc, filters, graph, filter, state)?;
-            Ok(flags)
-        }
+        Some(filter) => flags_of_end(alloc, filters, graph, filter, state),
     }
 }
 
@@ -161,13 +158,11 @@ fn flags_of_end(
     match end {
         VertexFilter::Members(slot) => {
             let members = members_at(&state.sets, slot.index);
-            let flags = flags_of_members(alloc, vertices, members)?;
-            Ok(flags)
+            flags_of_members(alloc, vertices, members)
         }
         VertexFilter::Function(function) => {
             let steps = steps_at(filters, function);
-            let flags = flags_of_filter(alloc, steps, vertices, &state.sets, &mut state.vectors)?;
-            Ok(flags)
+            flags_of_filter(alloc, steps, vertices, &state.sets, &mut state.vectors)
         }
     }
 }
