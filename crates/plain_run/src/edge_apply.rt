@@ -158,11 +158,13 @@ fn flags_of_end(
     match end {
         VertexFilter::Members(slot) => {
             let members = members_at(&state.sets, slot.index);
-            flags_of_members(alloc, vertices, members)
+            let flags = flags_of_members(alloc, vertices, members)?;
+            Ok(flags)
         }
         VertexFilter::Function(function) => {
             let steps = steps_at(filters, function);
-            flags_of_filter(alloc, steps, vertices, &state.sets, &mut state.vectors)
+            let flags = flags_of_filter(alloc, steps, vertices, &state.sets, &mut state.vectors)?;
+            Ok(flags)
         }
     }
 }

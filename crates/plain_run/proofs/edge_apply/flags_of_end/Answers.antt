@@ -1,5 +1,4 @@
 -- Proofs of `flags_of_end`, src/edge_apply.rt.
-use Rattle.std.proofs.lemmas.Result.{IfOk-weaker}
 use Rattle.std.proofs.Common.{map, slice_get}
 use Rattle.typed_tree.specs.FunctionStatementTree.{function_tree}
 use Rattle.algorithm_meaning.specs.Function.{result_of, steps_of}
@@ -7,17 +6,13 @@ use Rattle.algorithm_meaning.specs.Value.{members_of}
 use Rattle.plain_run.proofs.Flags.{flag_of_vertex, flag_of_member}
 use Rattle.plain_run.proofs.edge_apply.flags_of_end.Goals as goal
 
-pub returns-clause-flags : goal.returns-clause-flags
-returns-clause-flags c =
-    IfOk-weaker c.flags_of_filter-in-Function.result _ _ (λ found told v.
-    rw (c.in-Function.is, told, c.deref-in-Function.ensures.value, c.steps_at-steps.ensures)
+pub returns-in_ok-flags-in-Function-clause-flags : goal.returns-in_ok-flags-in-Function-clause-flags
+returns-in_ok-flags-in-Function-clause-flags c v =
+    rw (c.in-Function.is, c.in_ok-flags-in-Function.ensures.flags, c.deref-in-Function.ensures.value, c.steps_at-steps.ensures)
     (flag_of_vertex
-    (result_of (steps_of (slice_get (map function_tree c.args.filters.now) c.in-Function.function)) c.args.state.now.sets.items c.args.state.now.vectors.items) c.args.graph.now.vertices v))
-    c.flags_of_filter-in-Function.ensures.flags
+    (result_of (steps_of (slice_get (map function_tree c.args.filters.now) c.in-Function.function)) c.args.state.now.sets.items c.args.state.now.vectors.items) c.args.graph.now.vertices v)
 
-pub returns-in-Members-clause-flags : goal.returns-in-Members-clause-flags
-returns-in-Members-clause-flags c =
-    IfOk-weaker c.flags_of_members-in-Members.result _ _ (λ found told v.
-    rw (c.in-Members.is, told, c.members_at-members.ensures, c.deref.ensures.value)
-    (flag_of_member (members_of (slice_get c.args.state.now.sets.items c.in-Members.slot.index)) c.args.graph.now.vertices v))
-    c.flags_of_members-in-Members.ensures
+pub returns-in_ok-flags-in-Members-clause-flags : goal.returns-in_ok-flags-in-Members-clause-flags
+returns-in_ok-flags-in-Members-clause-flags c v =
+    rw (c.in-Members.is, c.in_ok-flags-in-Members.ensures, c.members_at-members.ensures, c.deref.ensures.value)
+    (flag_of_member (members_of (slice_get c.args.state.now.sets.items c.in-Members.slot.index)) c.args.graph.now.vertices v)
