@@ -51,7 +51,8 @@ main_meaning = record {
   reduced = reduced;
 }
 
-pushed : (xs : List MainStatement) (s : MainStatement) → block_tree (xs ++ s ∷ []) ≡ then_statement (block_tree xs) s.number s.label (statement_kind_tree s.action)
+pushed : (xs : List MainStatement) (s : MainStatement)
+    → block_tree (xs ++ s ∷ []) ≡ then_statement (block_tree xs) s.number s.label (statement_kind_tree s.action)
 pushed [] s = refl
 pushed (x ∷ xs) s = ap (Then x.number x.label (statement_kind_tree x.action)) (pushed xs s)
 

@@ -3,7 +3,8 @@ use Rattle.std.proofs.Common.{◌≡◌, refl, ap, sym, ℕ, List, [], ◌∷◌
 use Rattle.syntax.specs.Terminals.{Identifier}
 use Rattle.syntax.specs.declared.declaration.DeclaredType.{DeclaredType}
 use Rattle.syntax.specs.declared.declaration.DeclaredType.TheVariants as declared
-use Rattle.typed_tree.specs.FunctionStatementTree.{DeclareInt, DeclareBool, FunctionStatementTree, FunctionStatementsTree, StepThen, function_statement_tree, function_statements_tree}
+use Rattle.typed_tree.specs.FunctionStatementTree.{DeclareInt, DeclareBool, FunctionStatementTree, FunctionStatementsTree, StepThen}
+use Rattle.typed_tree.specs.FunctionStatementTree.{function_statement_tree, function_statements_tree}
 use Rattle.typed_tree.specs.FunctionStatementTree as typed
 use Rattle.typed_tree.specs.declared.function.FunctionStatement.{FunctionStatement}
 use Rattle.expression_types.specs.declared.fault.TypeRule.TheVariants as rule
@@ -41,7 +42,8 @@ function_meaning = record {
   reduced = reduced_step;
 }
 
-pushed : (xs : List FunctionStatement) (s : FunctionStatement) → function_statements_tree (xs ++ s ∷ []) ≡ step_after (function_statements_tree xs) (function_statement_tree s)
+pushed : (xs : List FunctionStatement) (s : FunctionStatement)
+    → function_statements_tree (xs ++ s ∷ []) ≡ step_after (function_statements_tree xs) (function_statement_tree s)
 pushed [] s = refl
 pushed (x ∷ xs) s = ap (StepThen (function_statement_tree x)) (pushed xs s)
 

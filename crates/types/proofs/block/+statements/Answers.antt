@@ -1,6 +1,7 @@
 -- Proofs of `statements` and its mutually recursive functions, src/block.rt.
-use Rattle.std.proofs.Common.{◌≡◌, ap, subst, sym, ◌∙◌, ◌+◌, ◌≤◌, length, drop}
+use Rattle.std.proofs.Common.{◌≡◌, ap, subst, sym, ◌∙◌, ◌+◌, drop, arith}
 use Rattle.syntax.specs.SourceViews.{statement_kind_tree, block_tree}
+use Rattle.syntax.specs.declared.statement.Action.TheViews.{the_lemmas}
 use Rattle.typed_tree.specs.BoolExpressionTree.{bool_expression_tree}
 use Rattle.typed_tree.specs.IntExpressionTree.{int_expression_tree}
 use Rattle.expression_types.specs.Faults.{ReportsFaults, outcome, sure, ◌>>=◌}
@@ -42,8 +43,8 @@ action-returns-in_ok-other-in-IfElse-clause-typed g t c =
 pub action-returns-in-For-clause-typed : goal.action-returns-in-For-clause-typed
 action-returns-in-For-clause-typed g t c =
     let m = g.K.BlockKind.meaning in
-    subst (λ a. ReportsFaults (λ s. (m.action_tree s, checker_of c.repeat.new.checker)) c.args.first_fault.now c.repeat.new.first_fault c.repeat.result (m.action_typed (checker_of c.args.checker.now) a))
-    (sym (ap statement_kind_tree c.in-For.is)) c.repeat.ensures.typed
+    subst (λ a. ReportsFaults (λ s. (m.action_tree s, checker_of c.repeat.new.checker)) c.args.first_fault.now c.repeat.new.first_fault c.repeat.result
+    (m.action_typed (checker_of c.args.checker.now) a)) (sym (ap statement_kind_tree c.in-For.is)) c.repeat.ensures.typed
 
 pub repeat-returns-clause-typed : goal.repeat-returns-clause-typed
 repeat-returns-clause-typed g t c =
@@ -135,3 +136,9 @@ action-returns-in_ok-body-in-If-clause-kept g t c = c.in_ok-body-in-If.ensures.k
 pub action-returns-in_ok-other-in-IfElse-clause-kept : goal.action-returns-in_ok-other-in-IfElse-clause-kept
 action-returns-in_ok-other-in-IfElse-clause-kept g t c =
     keeps_on c.args.checker.now.scope c.inner-in-IfElse.new.checker.scope c.inner-in-IfElse-2.new.checker.scope c.in_ok-body-in-IfElse.ensures.kept c.in_ok-other-in-IfElse.ensures.kept
+
+pub action-inner-requires-in-IfElse : goal.action-inner-requires-in-IfElse
+action-inner-requires-in-IfElse g t c κs within = (grind (arith, the_lemmas), within)
+
+pub action-inner-requires-in-IfElse-2 : goal.action-inner-requires-in-IfElse-2
+action-inner-requires-in-IfElse-2 g t c κs within = (grind (arith, the_lemmas), within)
