@@ -14,5 +14,5 @@ returns g c =
     let start : input (take c.new-reader.result.count text) c.new-reader.result.is_ended 0 ≡ unread =
     ap (λ (n : ℕ). input (take n text) c.new-reader.result.is_ended 0) c.new-reader.ensures.count ∙ ap (λ (b : Bool). input [] b 0) c.new-reader.ensures.not_ended in
     let runs = subst (λ (i : Input). RunsScript ps i (read text last.count last.is_ended) before after c.script.result.0) start c.script.ensures in
-    let whole : last.is_ended ≡ true → length text ≤ last.count = λ ended. subst (λ (t : List ℕ). length t ≤ last.count) last.same (last.whole ended) in
+    let whole : last.is_ended ≡ true → length text ≤ last.count = last.whole in
     subst (λ (t : List ℕ). RunsText ps t before after c.script.result.0) (sym c.requires.text) (runs_text ps text last.count last.is_ended whole before after c.script.result.0 runs)
