@@ -28,10 +28,12 @@ pub(crate) enum Failure {
     Vertices,
     Replies,
     Programs,
-    /// Beside runs only so many commits are made.
-    Commits(u64),
-    /// Beside commits only so many runs are right.
-    Runs(u32),
+    /// Beside runs a commit makes the version of this number, which is not the next one.
+    Commit(u64),
+    /// Beside runs a trim drops so many entries, and not those since the last trim.
+    Trim(u64),
+    /// Beside commits a run is on the version of this number, which is older than that of the run before.
+    Older(u64),
 }
 
 /// The answer to a call: the number of a version, how many entries were dropped, or 0.
