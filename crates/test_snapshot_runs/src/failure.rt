@@ -9,8 +9,8 @@ pub(crate) enum Failure {
     NotCompiled(u16),
     /// The test has no memory for it.
     Memory,
-    /// The lines around it are not printed.
-    Print,
+    /// This line around it is not printed.
+    Print(&'static str),
     /// A reader makes no such call, or there is no such reader.
     Call,
     /// No version is held.
