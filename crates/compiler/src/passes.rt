@@ -37,8 +37,7 @@ pub fn compile(alloc: Global, text: &[u8]) -> Result<Plan, CompileError>
     let source = parse(alloc, text)?;
     let program = check(alloc, &source)?;
     let schedule = accept(alloc, &program)?;
-    let plan = lower(alloc, &program, &schedule)?;
-    Ok(plan)
+    Ok(lower(alloc, &program, &schedule)?)
 }
 
 /// The law that a refusal is in the text, or at its end: its offset is at most the text's length. The call does nothing.

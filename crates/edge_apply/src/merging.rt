@@ -51,8 +51,7 @@ impl<'a> Work for RangeMerge<'a> {
         let high = range.end as u32;
         scratch.begin();
         join_between(alloc, context, self.found, low, high, scratch)?;
-        let changes = scratch.changes(alloc, context, None)?;
-        Ok(changes)
+        scratch.changes(alloc, context, None)
     }
 }
 

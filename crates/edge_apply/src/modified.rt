@@ -30,8 +30,7 @@ pub fn apply_modified(
 {
     let members = changed_vertices(alloc, changes_in(changes, vector), vertices)?;
     let form = form_for(members.len(), vertices, dense);
-    let set = VertexSet::from_ascending(alloc, vertices, &members, form)?;
-    Ok(set)
+    VertexSet::from_ascending(alloc, vertices, &members, form)
 }
 
 /// The changes in a vector.

@@ -18,3 +18,4 @@ pub mod Orders
 pub mod Walks
 pub mod Ascending
 pub mod Answered
+pub mod Endings

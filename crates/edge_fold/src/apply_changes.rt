@@ -47,8 +47,7 @@ impl Scratch {
             (entry (after_edges steps m.sets m.vectors (filter (λ e. test e.1) edges) m.vectors) x)) }
     {
         self.flush(alloc, context)?;
-        let changes = found_in_slots(alloc, context, to, &self.slots, &mut self.block)?;
-        Ok(changes)
+        found_in_slots(alloc, context, to, &self.slots, &mut self.block)
     }
 
     /// Adds those of the vertices that an end lets through to a list, in their order. What was folded stays. The only
@@ -161,8 +160,7 @@ fn all_changes(
         return Ok(changes);
     }
     let marked = entries.marked(alloc)?;
-    let changes = entries.changes(alloc, old, &marked, context.vertices)?;
-    Ok(changes)
+    entries.changes(alloc, old, &marked, context.vertices)
 }
 
 /// Its changes at the vertices that an end lets through.
@@ -182,6 +180,5 @@ fn passing_changes(
     let mut kept = Vec::new(alloc);
     keep_passing(context, end, &marked, block, &mut kept)?;
     let old = context.vectors.lane(slot.vector);
-    let changes = slot.entries.changes(alloc, old, &kept, context.vertices)?;
-    Ok(changes)
+    slot.entries.changes(alloc, old, &kept, context.vertices)
 }

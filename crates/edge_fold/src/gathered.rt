@@ -65,8 +65,7 @@ impl Scratch {
             → AreGathered context.entry.vertices m steps (filter (λ e. test e.1) edges) g) }
     {
         self.flush(alloc, context)?;
-        let gathered = gathered_in_slots(alloc, context, to, &self.slots, &mut self.block)?;
-        Ok(gathered)
+        gathered_in_slots(alloc, context, to, &self.slots, &mut self.block)
     }
 
     /// Folds all edges of which another scratch has gathered what they give, from vertices of the same graph. The only
@@ -132,15 +131,11 @@ fn numbers_in_slot(
 {
     let marked = slot.entries.marked(alloc)?;
     match to {
-        None => {
-            let numbers = slot.entries.numbers(alloc, &marked, context.vertices)?;
-            Ok(numbers)
-        }
+        None => slot.entries.numbers(alloc, &marked, context.vertices),
         Some(end) => {
             let mut kept = Vec::new(alloc);
             keep_passing(context, end, &marked, block, &mut kept)?;
-            let numbers = slot.entries.numbers(alloc, &kept, context.vertices)?;
-            Ok(numbers)
+            slot.entries.numbers(alloc, &kept, context.vertices)
         }
     }
 }

@@ -358,8 +358,7 @@ impl Accumulator {
         ensures given { IfOk result (λ found. AreMarked self.now found.items) }
         ensures covers { IfOk result (λ found. (combine : ℤ → ℤ → ℤ) (v : ℕ) (h : ℤ) → ¬ Contains found.items v → held_with combine self.now v h ≡ h) }
     {
-        let found = self.marks.members(alloc)?;
-        Ok(found)
+        self.marks.members(alloc)
     }
 }
 

@@ -138,10 +138,7 @@ fn flags_of(
 {
     match end {
         None => vec![in alloc; true; graph.vertices as usize],
-        Some(filter) => {
-            let flags = flags_of_end(alloc, filters, graph, filter, state)?;
-            Ok(flags)
-        }
+        Some(filter) => flags_of_end(alloc, filters, graph, filter, state),
     }
 }
 

@@ -73,8 +73,7 @@ fn pull_folded(
         → AreChangesOn range.entry.flat.now.vertices (edges_between (passes_words range.entry.from) test range.entry.flat.now.edges) m steps c.vectors.items) }
 {
     fold_range(alloc, range, scratch)?;
-    let changes = scratch.changes(alloc, range.context, None)?;
-    Ok(changes)
+    scratch.changes(alloc, range.context, None)
 }
 
 /// The changes of one vector. The only error is out of memory.

@@ -42,8 +42,7 @@ pub fn pull_crew<R: Threads + Sync, G: Gate + Sync>(
         return Err(CrewError::BadWorkers);
     };
     let workers = Workers { rt, gate, count };
-    let changes = pull_by_workers(&workers, alloc, apply, scratch, states)?;
-    Ok(changes)
+    Ok(pull_by_workers(&workers, alloc, apply, scratch, states)?)
 }
 
 /// What an apply of edge functions changes, as [`pull_crew`] says, by these workers. The only error is out of memory.
@@ -65,6 +64,5 @@ pub fn pull_by_workers<R: Threads + Sync, G: Gate + Sync>(
     }
     let assignment = PieceAssignment::of(apply.parallelization);
     let found = workers.run_pieces(alloc, pieces, assignment, &work, states)?;
-    let changes = work.merge(alloc, &found, scratch)?;
-    Ok(changes)
+    work.merge(alloc, &found, scratch)
 }

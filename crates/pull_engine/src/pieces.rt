@@ -73,8 +73,7 @@ impl PullWork<'_> {
         let context = self.apply.context(FoldStart::OldEntry);
         scratch.begin();
         join_all(alloc, context, found, scratch)?;
-        let changes = scratch.changes(alloc, context, None)?;
-        Ok(changes)
+        scratch.changes(alloc, context, None)
     }
 
     /// The first vertex of a piece, and the one after its last.
@@ -132,8 +131,7 @@ impl PullWork<'_> {
     {
         let range = self.range(FoldStart::Unit, piece);
         fold_range(alloc, range, scratch)?;
-        let gathered = scratch.gathered(alloc, range.context, None)?;
-        Ok(gathered)
+        scratch.gathered(alloc, range.context, None)
     }
 
     /// What the apply changes at the vertices of a piece, by a function of a common shape.

@@ -50,8 +50,7 @@ pub fn push(alloc: Global, apply: &Apply<'_>, scratch: &mut Scratch) -> Result<C
         None => fold_words(alloc, input, sources.words(), &mut block, scratch)?,
         Some(end) => fold_end(alloc, input, end, &mut block, scratch)?,
     }
-    let changes = scratch.changes(alloc, context, destinations.untested())?;
-    Ok(changes)
+    scratch.changes(alloc, context, destinations.untested())
 }
 
 /// Begins an apply with so much work, with the old entries of all vertices if that is more than there are vertices.

@@ -43,8 +43,7 @@ pub fn push_crew<R: Threads + Sync, G: Gate + Sync>(
         return Err(CrewError::BadWorkers);
     };
     let workers = Workers { rt, gate, count };
-    let changes = push_by_workers(&workers, alloc, apply, scratch, states)?;
-    Ok(changes)
+    Ok(push_by_workers(&workers, alloc, apply, scratch, states)?)
 }
 
 /// What an apply of edge functions changes, as [`push_crew`] says, by these workers. The only error is out of memory.
@@ -66,6 +65,5 @@ pub fn push_by_workers<R: Threads + Sync, G: Gate + Sync>(
     }
     let assignment = PieceAssignment::of(apply.parallelization);
     let found = workers.run_pieces(alloc, pieces, assignment, &work, states)?;
-    let changes = work.merge_by_workers(workers, alloc, &found, scratch, states)?;
-    Ok(changes)
+    work.merge_by_workers(workers, alloc, &found, scratch, states)
 }

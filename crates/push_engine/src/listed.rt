@@ -57,10 +57,7 @@ pub(crate) fn list_sources(
                 tested: false,
             })
         }
-        Some(end) => {
-            let listed = list_from(alloc, apply, end, scratch)?;
-            Ok(listed)
-        }
+        Some(end) => list_from(alloc, apply, end, scratch),
     }
 }
 
@@ -107,10 +104,7 @@ fn passing_sources(
         → IsEndFor apply.now.flat.now.vertices (Some from.entry) → us.items ≡ filter test (range_with_len 0 apply.now.flat.now.vertices)) }
 {
     match from {
-        EndpointFilter::Members(set) => {
-            let members = members_of(alloc, set)?;
-            Ok(members)
-        }
+        EndpointFilter::Members(set) => members_of(alloc, set),
         EndpointFilter::Filter(_) => {
             let all = all_vertices(alloc, apply.flat)?;
             let mut kept = Vec::new(alloc);

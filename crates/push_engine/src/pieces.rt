@@ -57,8 +57,7 @@ impl PushWork<'_> {
         let context = self.apply.context(FoldStart::OldEntry);
         scratch.begin();
         join_all(alloc, context, found, scratch)?;
-        let changes = scratch.changes(alloc, context, None)?;
-        Ok(changes)
+        scratch.changes(alloc, context, None)
     }
 
     /// What the apply changes, merged by these workers, each for its own ranges of destinations, if the pieces have found much.
@@ -119,8 +118,7 @@ impl PushWork<'_> {
         let part = part_between(&self.sources, indices.start, indices.end);
         state.begin();
         self.fold_part(alloc, context, part, words, state)?;
-        let gathered = state.gathered(alloc, context, to)?;
-        Ok(gathered)
+        state.gathered(alloc, context, to)
     }
 
     /// Folds the edges from the sources of a piece that pass to the destinations whose bits are set.
@@ -172,14 +170,8 @@ impl<'a> Work for PushWork<'a> {
         piece: usize,
     ) -> Result<Gathered, AllocError> {
         match self.destination_words() {
-            Some(words) => {
-                let gathered = self.gather_piece(alloc, piece, Some(words), None, state)?;
-                Ok(gathered)
-            }
-            None => {
-                let gathered = self.gather_piece(alloc, piece, None, self.apply.to, state)?;
-                Ok(gathered)
-            }
+            Some(words) => self.gather_piece(alloc, piece, Some(words), None, state),
+            None => self.gather_piece(alloc, piece, None, self.apply.to, state),
         }
     }
 }

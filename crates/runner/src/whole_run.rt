@@ -106,8 +106,7 @@ pub fn run<R: Threads + Sync, G: Gate + Sync>(
         return Err(RunError::BadWorkers);
     };
     let workers = Workers { rt, gate, count };
-    let outcome = run_by_workers(&workers, alloc, plan, graph, turns)?;
-    Ok(outcome)
+    Ok(run_by_workers(&workers, alloc, plan, graph, turns)?)
 }
 
 /// What a run of a plan shows, as [`run`] says, by these workers. The only error is out of memory.

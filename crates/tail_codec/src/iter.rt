@@ -122,24 +122,9 @@ impl<'a> Iterator for TailIter<'a> {
             self.rest = rest;
             return Some((key as u32, 1));
         }
-        let (key, weight, rest) = known_entry(self.low, self.rest);
+        let (key, weight, rest) = read_entry(self.low, self.rest)?;
         self.low = u64::from(key) + 1;
         self.rest = rest;
         Some((key, weight))
-    }
-}
-
-/// The first of the entries that the bytes are known to spell from `low` on, and the bytes after it.
-fn known_entry(low: u64, bytes: &[u8]) -> (u32, i64, &[u8])
-    requires low { low ≤ 2 ^ 32 }
-    requires some { 0 < length bytes.now }
-    requires spelling { SpellsFrom low (decoded low bytes.now) bytes.now }
-    ensures entries { decoded low bytes.now
-        ≡ (result.0, result.1) ∷ decoded (result.0 + 1) result.2.now }
-    ensures rest { SpellsFrom (result.0 + 1) (decoded (result.0 + 1) result.2.now) result.2.now }
-{
-    match read_entry(low, bytes) {
-        Some(read) => read,
-        None => unreachable!(),
     }
 }

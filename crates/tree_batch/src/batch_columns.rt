@@ -108,7 +108,7 @@ impl BatchColumns {
 impl Clone for BatchColumns {
     ghost is_clone = { λ columns copy. copy ≡ columns };
 
-    /// The same entries.
+    /// A copy, which has its own memory.
     fn clone(&self) -> Result<BatchColumns, AllocError> {
         let alloc = *self.numbers.allocator();
         Ok(BatchColumns {

@@ -63,7 +63,7 @@ impl Weights {
 impl Clone for Weights {
     ghost is_clone = { λ weights copy. weights_in copy ≡ weights_in weights };
 
-    /// The same weights.
+    /// A copy, which has its own memory.
     fn clone(&self) -> Result<Weights, AllocError> {
         match self {
             Weights::Bytes(weights) => {

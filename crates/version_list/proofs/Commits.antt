@@ -19,7 +19,7 @@ commit_adds s batch accepted = elim (cases_Bool (misfits (newest_graph s).vertic
   | inr inside ↦ elim (cases_Bool (lacks_room s 1)) [ inl full ↦ absurd (rw (inside, full) at accepted) | inr room ↦ rw (inside, room) refl ]
 ]
 
-opening_kept : (s : State) (step : Step) (reply : Reply) → (changed s step reply).opening ≡ s.opening
+pub opening_kept : (s : State) (step : Step) (reply : Reply) → (changed s step reply).opening ≡ s.opening
 opening_kept s (Commit batch) (Version number) = refl
 opening_kept s (Commit batch) (Ticket number version) = refl
 opening_kept s (Commit batch) Released = refl
@@ -62,7 +62,7 @@ trim_adds s Released = sym (append-nil s.batches)
 trim_adds s (Trimmed count) = sym (append-nil s.batches)
 trim_adds s (Refused number) = sym (append-nil s.batches)
 
-step_adds : (s : State) (step : Step) → IsAccepted (reply_to s step) → (state_after s step).batches ≡ s.batches ++ committed_by step
+pub step_adds : (s : State) (step : Step) → IsAccepted (reply_to s step) → (state_after s step).batches ≡ s.batches ++ committed_by step
 step_adds s (Commit batch) accepted = commit_adds s batch accepted
 step_adds s (Acquire which) accepted = hold_adds s which (reply_to s (Acquire which))
 step_adds s (Release ticket) accepted = release_adds s ticket (reply_to s (Release ticket))

@@ -7,3 +7,4 @@ pub mod Kept
 pub mod Commits
 pub mod Counting
 pub mod Shrinking
+pub mod LastBatches

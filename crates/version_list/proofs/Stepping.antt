@@ -6,7 +6,7 @@ use Rattle.indexmap.specs.IndexMap.{get, index_map_len}
 use Rattle.std.proofs.Math.Seq.{take-length}
 use Rattle.tree_batch.specs.declared.batch.Entry.{Entry}
 use Rattle.tree_batch.specs.Edge.{misfits}
-use Rattle.tree_batch.specs.Digraph.{Digraph, graph_after, graph_through}
+use Rattle.tree_batch.specs.Digraph.{Digraph, IsDigraph, graph_after, graph_through}
 use Rattle.version_list.specs.declared.step.Step.{Step}
 use Rattle.version_list.specs.declared.step.Step.TheVariants.{Commit, Acquire, Release}
 use Rattle.version_list.specs.declared.step.Reply.{Reply}
@@ -57,6 +57,7 @@ module _ (a b : Inside) (kept : IsFaithful a) (step : Step) (reply : Reply) (ans
   pub kept_step : Shows b (state_after (timeline a).state step) → IsFaithful b
   kept_step shows = record {
     legal = subst (λ t. IsLegal t b.history.items) (sym same_base) (subst (IsLegal (base a)) (sym history) (legal_pushed (base a) a.history.items done kept.legal answer accepted));
+    begun = subst (λ (s : State). IsDigraph (newest_graph s)) (sym same_base) kept.begun;
     state = subst (Shows b) (sym state_is) shows;
   }
 
@@ -186,6 +187,7 @@ module _ (a b : Inside) (kept : IsFaithful a) (newest : b.newest ≡ a.newest) (
       let state_is : (timeline b).state ≡ s = ap (λ (t : Timeline). t.state) same_timeline in
       record {
         legal = subst (λ (t : Timeline). IsLegal t.base t.history) (sym same_timeline) kept.legal;
+        begun = subst (λ (t : State). IsDigraph (newest_graph t)) (sym same_base) kept.begun;
         state = subst (Shows b) (sym state_is) (record {
           number = number ∙ shows.number;
           newest = newest ∙ shows.newest;

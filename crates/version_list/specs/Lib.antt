@@ -4,4 +4,5 @@ pub mod Prepared
 pub mod Trims
 pub mod Refusal
 pub mod Kept
+pub mod Since
 pub mod inside

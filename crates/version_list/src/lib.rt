@@ -12,6 +12,7 @@ mod error;
 mod held;
 mod laws;
 mod prepared;
+mod since;
 mod step;
 mod versions;
 

@@ -1,5 +1,9 @@
 //! Steps of the versions, their replies, and tickets.
 
+ghost use Rattle.std.specs.Prelude.{◌≡◌, option_to_list};
+ghost use Rattle.std.specs.Option.{option_copied};
+ghost use Rattle.version_list.specs.Machine.{committed_by};
+
 use tree_batch::Batch;
 
 /// Which version is asked for.
@@ -42,4 +46,16 @@ pub enum Reply {
 pub struct Done {
     pub step: Step,
     pub reply: Reply,
+}
+
+impl Done {
+    /// The batch that the step commits, or `None` if it commits none.
+    pub(crate) fn batch(&self) -> Option<&Batch>
+        ensures { option_to_list (option_copied result) ≡ committed_by self.now.step }
+    {
+        match &self.step {
+            Step::Commit(batch) => Some(batch),
+            Step::Acquire(_) | Step::Release(_) | Step::Trim => None,
+        }
+    }
 }

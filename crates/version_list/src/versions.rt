@@ -1,6 +1,6 @@
 //! The versions of a graph, and the history of the accepted steps.
 
-ghost use Rattle.std.specs.Prelude.{◌≡◌, Ok, ◌+◌, ◌^◌, ◌≤◌, ◌<◌, if◌then◌else◌, IfOk, IfErr, IfSome, MatchOption, None, OnOk, List, length, vec_len, vec_capacity};
+ghost use Rattle.std.specs.Prelude.{◌≡◌, Ok, ◌+◌, ◌^◌, ◌≤◌, ◌<◌, if◌then◌else◌, IfOk, IfErr, IfSome, MatchOption, None, OnOk, List, ℕ, is_some, length, vec_len, vec_capacity};
 ghost use Rattle.std.specs.Option.{option_copied};
 ghost use Rattle.indexmap.specs.IndexMap.{IsUnchanged, index_map_len};
 ghost use Rattle.tree_batch.specs.declared.batch.Entry.{Entry};
@@ -9,19 +9,24 @@ ghost use Rattle.tree_batch.specs.Digraph.{graph_after};
 ghost use Rattle.version_list.specs.declared.error.VersionError.TheVariants.{VertexRange, NotHeld, HistoryFull, NoMemory};
 ghost use Rattle.version_list.specs.declared.step.Step.TheVariants.{Commit, Acquire, Release};
 ghost use Rattle.version_list.specs.declared.step.Reply.TheVariants as reply;
-ghost use Rattle.version_list.specs.Machine.{lacks_room, lacks_steps, newest_number, number_asked, version_graph, is_kept, kept_graph, ticket_graph, ticket_version, is_open, reply_to};
+ghost use Rattle.edge_differences.specs.Listed.{AreAscending, AreSameBut, is_listed};
+ghost use Rattle.edge_differences.specs.Named.{named_in_all};
+ghost use Rattle.version_list.specs.Machine.{lacks_room, lacks_steps, newest_graph, newest_number, number_asked, version_graph, is_kept, kept_graph, ticket_graph, ticket_version, is_open, reply_to};
 ghost use Rattle.version_list.specs.Timeline.{IsLegal, replay, Opens, Accepts, Answers, Runs};
 ghost use Rattle.version_list.specs.inside.Timeline.{Takes};
 ghost use Rattle.version_list.specs.Prepared.{IsPrepared, IsPreparedAcquire, Prepares};
 ghost use Rattle.version_list.specs.Trims.{PreparesTrim, Trims};
 ghost use Rattle.version_list.specs.inside.Held.{HasRoom};
 ghost use Rattle.version_list.specs.Kept.{IsHeld};
+ghost use Rattle.version_list.specs.Since.{batches_since, lists_since};
 
 use crate::base::Base;
 use crate::error::VersionError;
 use crate::held::HeldVersions;
 use crate::prepared::{Prepared, PreparedAcquire, PreparedTrim};
+use crate::since::{named_by_steps, start_of_last};
 use crate::step::{Done, Reply, Step, Ticket, Which};
+use edge_differences::sorted_ends;
 use std::alloc::{AllocError, Global};
 use std::marker::Model;
 use std::thread::Threads;
@@ -438,6 +443,39 @@ impl Versions {
         ensures few { length result.now ≤ 16777216 }
     {
         &self.history
+    }
+
+    /// The ends of the edges in which the newest version may differ from an earlier one: those that the batches since then
+    /// name, ascending by source and then by destination, each once. It is `None` if there is no such version, if the
+    /// history was trimmed since it was made, if a batch since then asks for a number of vertices, or if these batches have
+    /// more than `most` entries in all. It takes the time of a walk over the entries of the history since then, and of a sort
+    /// of the entries of the batches.
+    ///
+    /// The only error is out of memory.
+    pub fn edges_since(
+        &self,
+        alloc: Global,
+        version: u64,
+        most: usize,
+    ) -> Result<Option<Vec<(u32, u32)>>, AllocError>
+        ensures edges { IfOk result (λ found. IfSome found (λ edges. (version ≤ newest_number self.now.state)
+            × AreSameBut edges.items (newest_graph self.now.state).edges (version_graph self.now.state version).edges)) }
+        ensures vertices { IfOk result (λ found. IfSome found (λ _.
+            (newest_graph self.now.state).vertices ≡ (version_graph self.now.state version).vertices)) }
+        ensures named { IfOk result (λ found. IfSome found (λ edges. AreAscending edges.items
+            × ((u v : ℕ) → is_listed edges.items u v ≡ is_listed (named_in_all (batches_since self.now.state version)) u v))) }
+        ensures listed { IfOk result (λ found. is_some found ≡ lists_since self.now version most) }
+    {
+        let Some(batches) = self.number.checked_sub(version) else {
+            return Ok(None);
+        };
+        let Some(start) = start_of_last(&self.history, batches) else {
+            return Ok(None);
+        };
+        match named_by_steps(alloc, &self.history[start..], most)? {
+            Some(named) => Ok(Some(sorted_ends(alloc, &named)?)),
+            None => Ok(None),
+        }
     }
 
     /// Takes a step, and answers what it is answered, a refusal too.

@@ -1,5 +1,6 @@
 -- Fields of versions: the state and the timeline that they mean, and what is true of them; the invariant of `Versions`.
 use Rattle.std.specs.Prelude.{◌≡◌, ◌+◌, ◌≤◌, length, vec_capacity}
+use Rattle.tree_batch.specs.Digraph.{IsDigraph}
 use Rattle.version_list.specs.declared.versions.Versions.TheInside.{Inside}
 use Rattle.version_list.specs.Machine.{State, newest_number, newest_graph, version_graph}
 use Rattle.version_list.specs.Timeline.{Timeline, IsLegal, replay}
@@ -31,7 +32,8 @@ pub record Shows (a : Inside) (s : State) : Type 0 where
   pub reserved : length a.history.items + length s.open_tickets + a.reserved ≤ vec_capacity a.history
   pub ticket_room : 2 ≤ a.reserved → HasRoom a.held
 
--- the history is legal, and the fields are those of its state
+-- the history is legal, it begins at a graph, and the fields are those of its state
 pub record IsFaithful (a : Inside) : Type 0 where
   pub legal : IsLegal (base a) a.history.items
+  pub begun : IsDigraph (newest_graph (base a))
   pub state : Shows a (timeline a).state

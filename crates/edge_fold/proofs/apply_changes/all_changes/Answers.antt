@@ -1,4 +1,5 @@
 -- Proofs of `all_changes`, src/apply_changes.rt.
+use Rattle.std.proofs.lemmas.Result.{IfOk-weaker}
 use Rattle.std.proofs.Common.{ℕ, ℤ, Bool, List, Contains, pos, get_or, refl, subst, sym, ap, ◌∙◌, arith, if◌then◌else◌}
 use Rattle.std.specs.List.Sorted.{IsNonDecreasing}
 use Rattle.algorithm_meaning.specs.Value.{entry}
@@ -24,6 +25,7 @@ returns c =
     let e = entry c.args.context.vectors.now.vectors slot.vector in
     let marked = c.in_ok-marked.ensures in
     let same = c.deref-2.ensures.value in
-    c.in_ok-changes-2.ensures (subst (λ (ks : List ℕ). IsNonDecreasing ks) (sym same) marked.ascending) (subst (λ (ks : List ℕ). AreMarked slot.entries ks) (sym same) marked.given)
-    (λ v. held slot.entries v (lane v)) (λ v has. refl) (λ v l absent. marked.covers (λ h y. y) v (lane v) (λ has. absent (subst (λ (ks : List ℕ). Contains ks v) (sym same) has)))
-    ∙ changed_agree lane e (λ v. held slot.entries v (lane v)) (λ v. held slot.entries v (e v)) c.lane-old.ensures 0 c.args.context.vertices (λ v l. ap (held slot.entries v) (c.lane-old.ensures v))
+    IfOk-weaker c.changes.result _ _
+    (λ found told. told ∙ changed_agree lane e (λ v. held slot.entries v (lane v)) (λ v. held slot.entries v (e v)) c.lane-old.ensures 0 c.args.context.vertices (λ v l. ap (held slot.entries v) (c.lane-old.ensures v)))
+    (c.changes.ensures (subst (λ (ks : List ℕ). IsNonDecreasing ks) (sym same) marked.ascending) (subst (λ (ks : List ℕ). AreMarked slot.entries ks) (sym same) marked.given)
+    (λ v. held slot.entries v (lane v)) (λ v has. refl) (λ v l absent. marked.covers (λ h y. y) v (lane v) (λ has. absent (subst (λ (ks : List ℕ). Contains ks v) (sym same) has))))

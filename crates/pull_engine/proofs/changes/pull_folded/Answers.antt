@@ -1,4 +1,5 @@
 -- Proofs of `pull_folded`, src/changes.rt.
+use Rattle.std.proofs.lemmas.Result.{IfOk-weaker}
 use Rattle.std.proofs.Common.{◌≡◌, ◌-◌, ℕ, true, List, refl, ap, ap₂, ◌∙◌, arith}
 use Rattle.std.specs.List.{filter, range_with_len}
 use Rattle.weighted_edges.specs.Edge.{Edge}
@@ -17,7 +18,8 @@ use Rattle.pull_engine.proofs.Merging.{filtered_destinations}
 use Rattle.pull_engine.proofs.changes.pull_folded.Goals as goal
 
 pub returns-clause-changes : goal.returns-clause-changes
-returns-clause-changes c m steps test are count starts is x r by long =
+returns-clause-changes c =
+    IfOk-weaker c.changes.result _ _ (λ found told m steps test are count starts is x r by long.
     let p = c.args.range in
     let g = p.flat.now in
     let from = passes_words p.from in
@@ -32,6 +34,7 @@ returns-clause-changes c m steps test are count starts is x r by long =
     (ap (λ (us : List ℕ). columns from g.edges (filter test us)) (ap₂ range_with_len low long_row)) (c.in_ok-fold_range.ensures m steps test are is) in
     let has = folded_columns p.context m steps from test (filter test all) g.edges c.fold_range.new.scratch (rises_filtered test 0 all (rises_range 0 g.vertices))
     (filtered_destinations g test c.requires.graph) folded in
-    c.in_ok-changes.ensures.changes m steps edges (λ v. true) are (λ v. refl) has starts x r by (omega (arith, count, long))
+    told m steps edges (λ v. true) are (λ v. refl) has starts x r by (omega (arith, count, long))
     ∙ ap (λ (n : ℕ). changed n old (new (filter (λ e. true) edges))) count
-    ∙ ap (λ (es : List Edge). changed g.vertices old (new es)) (all_pass edges)
+    ∙ ap (λ (es : List Edge). changed g.vertices old (new es)) (all_pass edges))
+    c.changes.ensures.changes

@@ -1,4 +1,5 @@
 -- Proofs of `push`, src/changes.rt.
+use Rattle.std.proofs.lemmas.Result.{IfOk-weaker}
 use Rattle.std.proofs.Common.{ℕ, ◌&&◌, Bool, List, Option, ap, sym, ◌∙◌, subst, arith}
 use Rattle.std.specs.List.{filter}
 use Rattle.weighted_edges.specs.Edge.{Edge}
@@ -22,7 +23,8 @@ use Rattle.push_engine.proofs.changes.push.Goals.{in-None+in_ok-fold_words-in-No
 use Rattle.push_engine.proofs.changes.push.Goals as goal
 
 pub returns-clause-changes : goal.returns-clause-changes
-returns-clause-changes c m steps from to vectors sizes kernels is_from is_to x r by long =
+returns-clause-changes c =
+    IfOk-weaker c.changes.result _ _ (λ found told m steps from to vectors sizes kernels is_from is_to x r by long.
     let are = c.context-context.ensures.reads m steps (record { vectors = vectors; sizes = sizes; kernels = kernels }) in
     let count = ap (λ (f : ApplyContext). f.vertices) c.context-context.ensures.context in
     let starts = ap (λ (f : ApplyContext). f.start) c.context-context.ensures.context in
@@ -46,8 +48,9 @@ returns-clause-changes c m steps from to vectors sizes kernels is_from is_to x r
       | in-Some+in_ok-fold_end-in-Some w ↦ subst (λ (s : Scratch). HasFolded c.context-context.result m steps edges s) (sym w.scratch-is)
           (w.in_ok-fold_end-in-Some.ensures m steps from are (left_is_end m from w.in-Some.end sources w.in-Some.ensures from_tests) begun)
     ] in
-    c.in_ok-changes.ensures.changes m steps edges last are is_last has starts x r by (omega (arith, count, long))
+    told m steps edges last are is_last has starts x r by (omega (arith, count, long))
     ∙ ap (λ (n : ℕ). changed n old (new (filter (λ e. last e.1) edges))) count
     ∙ ap (λ (es : List Edge). changed g.vertices old (new es))
     (between_tested from words last g.edges
-    ∙ sym (to_agree g from to (λ v. words v && last v) c.context-context.ensures.graph (λ v l. sym (ap (λ (b : Bool). b && last v) (c.words.ensures v) ∙ tests.both v l))))
+    ∙ sym (to_agree g from to (λ v. words v && last v) c.context-context.ensures.graph (λ v l. sym (ap (λ (b : Bool). b && last v) (c.words.ensures v) ∙ tests.both v l)))))
+    c.changes.ensures.changes

@@ -1,4 +1,5 @@
 -- Proofs of `push_by_workers`, src/crew_apply.rt.
+use Rattle.std.proofs.lemmas.Result.{IfOk-weaker}
 use denote.Param.Send.{sendable}
 use Rattle.std.proofs.Crossing.{crosses}
 use Rattle.std.proofs.Common.{length, sym, subst}
@@ -15,10 +16,12 @@ run_pieces-requires-sync-W g c κs within = search (sendable, crosses, work_sync
 
 pub returns-clause-changes : goal.returns-clause-changes
 returns-clause-changes g c =
+    IfOk-weaker c.merge_by_workers.result _ _ (λ found told.
     let work = c.in_ok-work.work in
-    let cs = c.in_ok-changes.changes.vectors.items in
+    let cs = found.vectors.items in
     let lent = c.deref.ensures.value in
     let found = subst (λ n. AreFound (Answers work) n c.in_ok-found.found.items) c.pieces-pieces.ensures c.in_ok-found.ensures.found in
     let listed = subst (λ fs. AreFound (Answers work) (length work.partition) fs) (sym lent) found in
-    let whole = c.in_ok-changes.ensures.changes (found_answers (Answers work) (length work.partition) _ listed) (found_once (Answers work) (length work.partition) _ listed) in
-    subst (λ (a : Apply). AreChangesOf a cs) c.in_ok-work.ensures.apply whole
+    let whole = told (found_answers (Answers work) (length work.partition) _ listed) (found_once (Answers work) (length work.partition) _ listed) in
+    subst (λ (a : Apply). AreChangesOf a cs) c.in_ok-work.ensures.apply whole)
+    c.merge_by_workers.ensures.changes

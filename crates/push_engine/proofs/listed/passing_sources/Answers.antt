@@ -1,4 +1,5 @@
 -- Proofs of `passing_sources`, src/listed.rt.
+use Rattle.std.proofs.lemmas.Result.{IfOk-weaker}
 use Rattle.std.proofs.Common.{◌≡◌, ◌++◌, ℕ, List, ap, ◌∙◌, sym, subst, Some}
 use Rattle.std.specs.List.{filter, range_with_len}
 use Rattle.kernels.specs.EdgeApply.{is_member}
@@ -35,11 +36,13 @@ returns-in_ok-keep_passing-in-Filter-clause-list c m test vectors sizes is withi
     (subst (λ (f : ApplyContext). HasSizes f.sizes.now m) (sym context) sizes) is ∙ ap (λ (ks : List ℕ). ks ++ filter test c.deref.result.now) c.new-kept.ensures.items
     ∙ ap (filter test) (c.deref.ensures.value ∙ found.list)
 
-pub returns-in_ok-members-in-Members-clause-list : goal.returns-in_ok-members-in-Members-clause-list
-returns-in_ok-members-in-Members-clause-list c m test vectors sizes is within =
+pub returns-in-Members-clause-list : goal.returns-in-Members-clause-list
+returns-in-Members-clause-list c =
+    IfOk-weaker c.members_of-in-Members.result _ _ (λ found told m test vectors sizes is within.
     let n = c.args.apply.now.flat.now.vertices in
     let set = c.in-Members.set.now in
     let test_is : (v : ℕ) → test v ≡ is_member v set.members = subst (λ (e : EndpointFilter). IsTest e m test) c.in-Members.is is in
     let count : set.vertices ≡ n = subst (λ (e : EndpointFilter). IsEndFor n (Some e)) c.in-Members.is within in
-    c.in_ok-members-in-Members.ensures.members
-    ∙ members_listed n set.members test (subst (λ (k : ℕ). IsAscendingBelow k set.members) count c.members_of.ensures.valid) test_is
+    told
+    ∙ members_listed n set.members test (subst (λ (k : ℕ). IsAscendingBelow k set.members) count c.members_of.ensures.valid) test_is)
+    c.members_of-in-Members.ensures.members

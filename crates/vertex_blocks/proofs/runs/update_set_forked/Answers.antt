@@ -10,7 +10,7 @@ pub make_set-requires-2 : goal.make_set-requires-2
 make_set-requires-2 g c = rw (c.of_keys.ensures, keys_in c.deref.result.now None tt, c.deref.ensures.value) c.in_ok-added.ensures.removed_ascend
 
 pub returns : goal.returns
-returns c =
+returns g c =
     let fewer = ap keys_of (c.in_ok-fewer.ensures.entries ∙ c.of_keys.ensures) ∙ keys_in c.deref.result.now None tt ∙ c.deref.ensures.value ∙ c.in_ok-added.ensures.removed in
     IfOk-weaker c.same_size_difference_forked.result _ _
     (λ t is. set_updated t c.args.set.now c.in_ok-grown.grown c.in_ok-more.more.entries (keys_of c.in_ok-fewer.fewer.entries) c.args.updates.now c.len.ensures.valid.ascending c.requires

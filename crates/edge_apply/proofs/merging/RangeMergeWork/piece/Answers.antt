@@ -1,4 +1,5 @@
 -- Proofs of `piece`, src/merging.rt.
+use Rattle.std.proofs.lemmas.Result.{IfOk-weaker}
 use Rattle.std.proofs.Common.{◌-◌, ◌≤◌, ℕ, true, List, refl, sym, ap, ◌∙◌, subst, arith}
 use Rattle.std.specs.List.{filter, flat_map}
 use Rattle.weighted_edges.specs.Edge.{Edge}
@@ -34,7 +35,8 @@ overflow_cast-high c =
     omega (arith, last, end, few)
 
 pub returns-clause-out : goal.returns-clause-out
-returns-clause-out c m steps edges_of vectors sizes kernels up each x r by long =
+returns-clause-out c =
+    IfOk-weaker c.changes.result _ _ (λ found told m steps edges_of vectors sizes kernels up each x r by long.
     let w = c.args.self.now in
     let k = c.args.piece in
     let n = w.apply.flat.now.vertices in
@@ -52,9 +54,10 @@ returns-clause-out c m steps edges_of vectors sizes kernels up each x r by long 
     let new = λ (es : List Edge). entry (after_edges steps m.sets m.vectors es m.vectors) x in
     let order = let l = inside.0 in let s = c.piece-range.ensures.start in let e = c.piece-range.ensures.end in let o : low ≤ high = omega (arith, l, s, e) in o in
     let below = let l = inside.1 in let e = c.piece-range.ensures.end in let b : high ≤ n = omega (arith, l, e) in b in
-    c.in_ok-changes.ensures.changes m steps part (λ _. true) reads (λ v. refl) has starts x r by (omega (arith, count, long))
+    told m steps part (λ _. true) reads (λ v. refl) has starts x r by (omega (arith, count, long))
     ∙ ap (λ (v : ℕ). changed v old (new (filter (λ e. true) part))) count
     ∙ ap (λ (es : List Edge). changed n old (new es)) (filter_all (λ _. true) part (λ e. refl))
     ∙ changed_between n low high x r m steps all by long order below
     ∙ ap (λ (s : ℕ). changed_from old (new all) s (high - s)) c.piece-range.ensures.start
-    ∙ ap (λ (e : ℕ). changed_from old (new all) (end_of w.ranges (k - 1)) (e - end_of w.ranges (k - 1))) c.piece-range.ensures.end
+    ∙ ap (λ (e : ℕ). changed_from old (new all) (end_of w.ranges (k - 1)) (e - end_of w.ranges (k - 1))) c.piece-range.ensures.end)
+    c.changes.ensures.changes

@@ -1,4 +1,5 @@
 -- Proofs of `changes`, src/apply_changes.rt.
+use Rattle.std.proofs.lemmas.Result.{IfOk-weaker}
 use Rattle.std.proofs.Common.{ℕ, ◌<◌, if◌then◌else◌, ℤ, [], List, take, refl, sym, ap, ◌∙◌, arith}
 use Rattle.std.specs.List.{filter}
 use Rattle.weighted_edges.specs.Edge.{Edge}
@@ -14,7 +15,8 @@ use Rattle.edge_fold.proofs.Meaning.{entries_after, given_by_one}
 use Rattle.edge_fold.proofs.scratch.Scratch.changes.Goals as goal
 
 pub returns-clause-changes : goal.returns-clause-changes
-returns-clause-changes c m steps edges test are is has old x r by long =
+returns-clause-changes c =
+    IfOk-weaker c.found_in_slots.result _ _ (λ found told m steps edges test are is has old x r by long.
     let flushed = c.flush.new.self in
     let f = c.args.context in
     let n = f.vertices in
@@ -26,6 +28,7 @@ returns-clause-changes c m steps edges test are is has old x r by long =
     let now = c.in_ok-flush.ensures.folded m steps edges are has x r own in
     let folded = λ (v : ℕ) (l : v < n). sym (ap (λ (ws : List Edge). reduced_at r v (h v) (given_on x g ws)) none)
     ∙ old_entries f m x v r (active flushed.slots) (given_on x g (waiting f.weighted flushed.pairs)) (given_on x g edges) old are.vectors (now.entries v (o v) l) in
-    c.in_ok-changes.ensures.changes m test are.vectors are.sizes is x
+    told m test are.vectors are.sizes is x
     ∙ changed_agree o o (λ v. if test v then h v else o v) (entry (after_edges steps m.sets m.vectors (filter (λ e. test e.1) edges) m.vectors) x)
-    (λ v. refl) 0 n (λ v l. ap (λ (y : ℤ). if test v then y else o v) (folded v (omega (arith, l))) ∙ entries_after r x v m steps test edges by (omega (arith, l, long)))
+    (λ v. refl) 0 n (λ v l. ap (λ (y : ℤ). if test v then y else o v) (folded v (omega (arith, l))) ∙ entries_after r x v m steps test edges by (omega (arith, l, long))))
+    c.found_in_slots.ensures.changes

@@ -1,6 +1,8 @@
 -- Proofs of `gathered`, src/gathered.rt.
+use Rattle.std.proofs.lemmas.Result.{IfOk-at_ok}
 use Rattle.std.proofs.Common.{ℕ, ◌<◌, ℤ, [], if◌then◌else◌, List, take, sym, ap, ◌∙◌}
 use Rattle.weighted_edges.specs.Edge.{Edge}
+use Rattle.edge_fold.proofs.Endings.{if_each_ok}
 use Rattle.edge_fold.specs.declared.apply_context.FoldStart.TheVariants as start
 use Rattle.edge_fold.specs.Folded.{waiting}
 use Rattle.edge_fold.specs.Contributions.{all_given, given_on, pairs, reduced_at}
@@ -11,7 +13,8 @@ use Rattle.edge_fold.proofs.Meaning.{filtered_edges}
 use Rattle.edge_fold.proofs.scratch.Scratch.gathered.Goals as goal
 
 pub returns-clause-given : goal.returns-clause-given
-returns-clause-given c m steps edges test are is has unit x r by =
+returns-clause-given c =
+    if_each_ok c.gathered_in_slots.result _ (λ found was m steps edges test are is has unit x r by.
     let flushed = c.flush.new.self in
     let f = c.args.context in
     let g = all_given m steps in
@@ -22,9 +25,9 @@ returns-clause-given c m steps edges test are is has unit x r by =
     sym (ap (λ (ws : List Edge). reduced_at r v (held_in_with (combined_with_seed start.Unit r) ss x v h) (given_on x g ws)) none)
     ∙ unit_entries f x v h r ss (given_on x g (waiting f.weighted flushed.pairs)) (given_on x g edges) unit (now.entries v h l) in
     record {
-      reduction = c.in_ok-gathered.ensures.reduction x r now.reduction;
+      reduction = IfOk-at_ok _ was c.gathered_in_slots.ensures.reduction x r now.reduction;
       numbers = λ v h l.
-          c.in_ok-gathered.ensures.numbers m test are.vectors are.sizes is x v r h l
+          IfOk-at_ok _ was c.gathered_in_slots.ensures.numbers m test are.vectors are.sizes is x v r h l
           ∙ ap (λ (n : ℤ). if test v then n else h) (folded v h l)
           ∙ sym (filtered_edges r x v h test g edges);
-    }
+    })

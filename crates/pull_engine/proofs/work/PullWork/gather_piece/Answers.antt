@@ -1,4 +1,5 @@
 -- Proofs of `gather_piece`, src/pieces.rt.
+use Rattle.std.proofs.lemmas.Result.{IfOk-weaker}
 use Rattle.std.proofs.Common.{◌≡◌, ◌-◌, ℕ, true, List, slice_range, refl, sym, ap, ◌∙◌, subst}
 use Rattle.std.specs.List.{filter, range_with_len}
 use Rattle.weighted_edges.specs.Edge.{Edge}
@@ -14,11 +15,12 @@ use Rattle.pull_engine.proofs.Rows.{part_of_range}
 use Rattle.pull_engine.proofs.work.PullWork.gather_piece.Goals as goal
 
 pub returns : goal.returns
-returns c m steps from to vectors sizes kernels is_from is_to x r by =
+returns c =
+    IfOk-weaker c.gathered.result _ _ (λ found told m steps from to vectors sizes kernels is_from is_to x r by.
     let w = c.args.self.now in
     let g = w.apply.flat.now in
     let k = c.args.piece in
-    let found = c.in_ok-gathered.gathered in
+    let found = found in
     let p = c.range-range.result in
     let of_piece = c.range-range.ensures in
     let passes = passes_words p.from in
@@ -30,10 +32,11 @@ returns c m steps from to vectors sizes kernels is_from is_to x r by =
     let reads = of_piece.reads m steps (record { vectors = vectors; sizes = sizes; kernels = kernels }) in
     let has = c.in_ok-fold_range.ensures m steps to reads (of_piece.to m to is_to) in
     let whole = columns passes p.flat.now.edges (filter to (range_with_len p.low (p.high - p.low))) in
-    let gathered = c.in_ok-gathered.ensures.given m steps whole (λ _. true) reads (λ v. refl) has (ap (λ (f : ApplyContext). f.start) of_piece.context) x r by in
+    let gathered = told m steps whole (λ _. true) reads (λ v. refl) has (ap (λ (f : ApplyContext). f.start) of_piece.context) x r by in
     let same = filter_all (λ (e : Edge). true) whole (λ e. refl)
     ∙ ap (λ (d : Digraph). columns passes d.edges (filter to (range_with_len p.low (p.high - p.low)))) of_piece.flat
     ∙ ap (λ (us : List ℕ). columns passes g.edges (filter to us)) row
     ∙ columns_agree g passes from of_piece.graph (λ v l. of_piece.from v ∙ w.passing m from vectors sizes is_from v l) (filter to (piece_of w.partition all k)) in
     subst (λ (n : ℕ). AreGatheredFor n m steps (columns from g.edges (filter to (piece_of w.partition all k))) found x r) (ap (λ (f : ApplyContext). f.vertices) of_piece.context)
-    (subst (λ (es : List Edge). AreGatheredFor p.context.vertices m steps es found x r) same gathered)
+    (subst (λ (es : List Edge). AreGatheredFor p.context.vertices m steps es found x r) same gathered))
+    c.gathered.ensures.given

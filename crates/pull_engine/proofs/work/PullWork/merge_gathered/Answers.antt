@@ -1,4 +1,5 @@
 -- Proofs of `merge_gathered`, src/pieces.rt.
+use Rattle.std.proofs.lemmas.Result.{IfOk-weaker}
 use Rattle.std.proofs.Common.{ℕ, true, List, refl, sym, ap, ◌∙◌, subst, arith}
 use Rattle.std.specs.List.{filter, range_with_len}
 use Rattle.std.proofs.lemmas.List.FromFn.{length-range_with_len}
@@ -17,7 +18,8 @@ use Rattle.pull_engine.proofs.Merging.{each_gathered, merged}
 use Rattle.pull_engine.proofs.work.PullWork.merge_gathered.Goals as goal
 
 pub returns-clause-changes : goal.returns-clause-changes
-returns-clause-changes c answers order m steps from to vectors sizes kernels is_from is_to x r by long =
+returns-clause-changes c =
+    IfOk-weaker c.changes.result _ _ (λ found told answers order m steps from to vectors sizes kernels is_from is_to x r by long.
     let w = c.args.self.now in
     let fs = c.args.found.now in
     let edges = w.apply.flat.now.edges in
@@ -30,7 +32,8 @@ returns-clause-changes c answers order m steps from to vectors sizes kernels is_
     let whole_list = subst (λ (n : ℕ). AreEnds 0 n w.partition) (sym (length-range_with_len 0 w.apply.flat.now.vertices)) w.whole in
     let whole = merged _ m steps w.apply.flat.now from to w.partition (range_with_len 0 w.apply.flat.now.vertices)
     (pieces_of fs) c.join_all.new.scratch c.context-context.ensures.graph whole_list refl order has in
-    c.in_ok-changes.ensures.changes m steps (edges_between from to edges) (λ _. true) (c.context-context.ensures.reads m steps (record { vectors = vectors; sizes = sizes; kernels = kernels }))
+    told m steps (edges_between from to edges) (λ _. true) (c.context-context.ensures.reads m steps (record { vectors = vectors; sizes = sizes; kernels = kernels }))
     (λ v. refl) whole (ap (λ (f : ApplyContext). f.start) c.context-context.ensures.context) x r by (omega (arith, count, long))
     ∙ ap (λ (n : ℕ). changed n old (new (filter (λ e. true) (edges_between from to edges)))) count
-    ∙ ap (λ (es : List Edge). changed w.apply.flat.now.vertices old (new es)) (filter_all (λ _. true) (edges_between from to edges) (λ e. refl))
+    ∙ ap (λ (es : List Edge). changed w.apply.flat.now.vertices old (new es)) (filter_all (λ _. true) (edges_between from to edges) (λ e. refl)))
+    c.changes.ensures.changes

@@ -1,4 +1,5 @@
 -- Proofs of `gather_piece`, src/pieces.rt.
+use Rattle.std.proofs.lemmas.Result.{IfOk-weaker}
 use Rattle.std.proofs.Common.{◌-◌, ℕ, List, length, slice_range, ap, ◌∙◌, subst, arith}
 use Rattle.std.specs.List.{filter}
 use Rattle.crew.specs.Partition.{end_of, piece_of}
@@ -29,11 +30,12 @@ part_between-part-requires-clause-inside c =
     omega (arith, last, end, long)
 
 pub returns-clause-given : goal.returns-clause-given
-returns-clause-given c m steps from test vectors sizes kernels is_from is_test x r by =
+returns-clause-given c =
+    IfOk-weaker c.gathered.result _ _ (λ found told m steps from test vectors sizes kernels is_from is_test x r by.
     let w = c.args.self.now in
     let edges = w.apply.flat.now.edges in
     let k = c.args.piece in
-    let g = c.in_ok-gathered.gathered in
+    let g = found in
     let folded = λ (us : List ℕ). rows_to (passes_words c.args.words) edges (passing_in w.tested from us) in
     let part = c.part_between-part.ensures
     ∙ ap (λ (us : List ℕ). slice_range us c.piece-indices.result.start c.piece-indices.result.end) c.deref.ensures.value
@@ -41,8 +43,9 @@ returns-clause-given c m steps from test vectors sizes kernels is_from is_test x
     ∙ ap (λ (e : ℕ). slice_range w.sources.items (end_of w.partition (k - 1)) e) c.piece-indices.ensures.end in
     let reads = c.context-context.ensures.reads m steps (record { vectors = vectors; sizes = sizes; kernels = kernels }) in
     let has = c.in_ok-fold_part.ensures m steps from reads is_from (c.begin.ensures _ m steps) in
-    let gathered = c.in_ok-gathered.ensures.given m steps (folded c.part_between-part.result.now) test reads is_test has
+    let gathered = told m steps (folded c.part_between-part.result.now) test reads is_test has
     (ap (λ (f : ApplyContext). f.start) c.context-context.ensures.context) x r by in
     subst (λ (n : ℕ). AreGatheredFor n m steps (filter (λ e. test e.1) (folded (piece_of w.partition w.sources.items k))) g x r)
     (ap (λ (f : ApplyContext). f.vertices) c.context-context.ensures.context)
-    (subst (λ (us : List ℕ). AreGatheredFor c.context-context.result.vertices m steps (filter (λ e. test e.1) (folded us)) g x r) part gathered)
+    (subst (λ (us : List ℕ). AreGatheredFor c.context-context.result.vertices m steps (filter (λ e. test e.1) (folded us)) g x r) part gathered))
+    c.gathered.ensures.given

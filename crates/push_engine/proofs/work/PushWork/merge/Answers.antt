@@ -1,4 +1,5 @@
 -- Proofs of `merge`, src/pieces.rt.
+use Rattle.std.proofs.lemmas.Result.{IfOk-weaker}
 use Rattle.std.proofs.Common.{ℕ, true, List, refl, sym, ap, ◌∙◌, subst, arith}
 use Rattle.std.specs.List.{filter}
 use Rattle.weighted_edges.specs.Edge.{Edge}
@@ -16,7 +17,8 @@ use Rattle.edge_apply.proofs.Listed.{filter_all}
 use Rattle.push_engine.proofs.work.PushWork.merge.Goals as goal
 
 pub returns-clause-changes : goal.returns-clause-changes
-returns-clause-changes c answers order m steps from to vectors sizes kernels is_from is_to x r by long =
+returns-clause-changes c =
+    IfOk-weaker c.changes.result _ _ (λ found told answers order m steps from to vectors sizes kernels is_from is_to x r by long.
     let w = c.args.self.now in
     let fs = c.args.found.now in
     let edges = w.apply.flat.now.edges in
@@ -29,6 +31,7 @@ returns-clause-changes c answers order m steps from to vectors sizes kernels is_
     let each = subst (λ (n : ℕ). EachGathered n m steps edges_of fs) (sym count) (each_gathered w fs m steps from to answers vectors sizes kernels is_from is_to) in
     let has = c.in_ok-join_all.ensures m steps edges_of each (c.begin.ensures _ m steps) in
     let whole = merged _ m steps edges w.tested from to w.partition w.sources.items (pieces_of fs) c.join_all.new.scratch w.whole (w.passing m from vectors sizes is_from) order has in
-    c.in_ok-changes.ensures.changes m steps (edges_between from to edges) (λ _. true) reads (λ v. refl) whole starts x r by (omega (arith, count, long))
+    told m steps (edges_between from to edges) (λ _. true) reads (λ v. refl) whole starts x r by (omega (arith, count, long))
     ∙ ap (λ (n : ℕ). changed n old (new (filter (λ e. true) (edges_between from to edges)))) count
-    ∙ ap (λ (es : List Edge). changed w.apply.flat.now.vertices old (new es)) (filter_all (λ _. true) (edges_between from to edges) (λ e. refl))
+    ∙ ap (λ (es : List Edge). changed w.apply.flat.now.vertices old (new es)) (filter_all (λ _. true) (edges_between from to edges) (λ e. refl)))
+    c.changes.ensures.changes
