@@ -88,7 +88,7 @@ impl<'a> PullWork<'a> {
         let Some(count) = WorkerCount::new(workers) else {
             return Err(CrewError::BadWorkers);
         };
-        PullWork::for_workers(alloc, apply, count, scratch)
+        Ok(PullWork::for_workers(alloc, apply, count, scratch)?)
     }
 
     /// The pieces of an apply for these workers, as [`PullWork::new`] says. The only error is out of memory.

@@ -82,7 +82,7 @@ impl<'a> PushWork<'a> {
         let Some(count) = WorkerCount::new(workers) else {
             return Err(CrewError::BadWorkers);
         };
-        PushWork::for_workers(alloc, apply, count, scratch)
+        Ok(PushWork::for_workers(alloc, apply, count, scratch)?)
     }
 
     /// The pieces of an apply for these workers, as [`PushWork::new`] says. The only error is out of memory.

@@ -155,8 +155,15 @@ pub begins_after : (a : Inside) (kept : IsFaithful a) (t : Timeline) → timelin
     → length (commits_of items) < count → k ≤ a.number × count ≡ a.number - k → k < newest_number t.base
 begins_after a kept t view items are k count few counted =
     subst (λ (u : Timeline). k < newest_number u.base) view
-    (omega (arith, few, counted, kept.state.number, ap (λ (ds : List Done). length (commits_of ds)) are, ap length (replay_commits (base a) a.history.items kept.legal),
-    length-append (base a).batches (commits_of a.history.items)))
+    (omega (
+      arith,
+      few,
+      counted,
+      kept.state.number,
+      ap (λ (ds : List Done). length (commits_of ds)) are,
+      ap length (replay_commits (base a) a.history.items kept.legal),
+      length-append (base a).batches (commits_of a.history.items),
+    ))
 
 -- batches that ask for no number of vertices leave it as it is
 stays_after : (n : ℕ) (batch : List Entry) → grows batch ≡ false → vertices_after n batch ≡ n

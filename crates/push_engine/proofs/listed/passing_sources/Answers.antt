@@ -38,11 +38,11 @@ returns-in_ok-keep_passing-in-Filter-clause-list c m test vectors sizes is withi
 
 pub returns-in-Members-clause-list : goal.returns-in-Members-clause-list
 returns-in-Members-clause-list c =
-    IfOk-weaker c.members_of-in-Members.result _ _ (λ found told m test vectors sizes is within.
+    IfOk-weaker c.members_of.result _ _ (λ found told m test vectors sizes is within.
     let n = c.args.apply.now.flat.now.vertices in
     let set = c.in-Members.set.now in
     let test_is : (v : ℕ) → test v ≡ is_member v set.members = subst (λ (e : EndpointFilter). IsTest e m test) c.in-Members.is is in
     let count : set.vertices ≡ n = subst (λ (e : EndpointFilter). IsEndFor n (Some e)) c.in-Members.is within in
     told
     ∙ members_listed n set.members test (subst (λ (k : ℕ). IsAscendingBelow k set.members) count c.members_of.ensures.valid) test_is)
-    c.members_of-in-Members.ensures.members
+    c.members_of.ensures.members
