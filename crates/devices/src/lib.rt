@@ -13,7 +13,7 @@
 //! A history says what the reader or writer inside answered. That those bytes reached a disk or a
 //! screen is more than a contract can know.
 //!
-//! `TextFeed` is the reader of a text that is at hand.
+//! `TextFeed` is the reader of a text that is at hand. It gives the text's memory back with the last byte.
 //!
 //! Who uses it: code that runs scripts from one device to another.
 #![tactic(auto)]

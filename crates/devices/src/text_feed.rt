@@ -1,5 +1,6 @@
 //! A text that is at hand, as a reader.
-ghost use Rattle.std.specs.Prelude.{◌≡◌, ◌≤◌, ◌+◌, ◌-◌, true, false, ℕ, List, [], length, take};
+ghost use Rattle.std.specs.Prelude.{◌≡◌, ◌≤◌, ◌+◌, ◌-◌, true, false, ℕ, List, [], length, take, Some, None};
+ghost use Rattle.std.specs.Global.{Vec};
 
 use crate::traits::Feed;
 use std::io;
@@ -15,27 +16,29 @@ impl Text for Brand {
 }
 
 /// A reader of a text that is at hand, from its first byte. It has given a first part of the text, it ends after
-/// the whole text, and it never fails.
+/// the whole text, and it never fails. It gives the text's memory back with the last byte.
 #[derive(Drop)]
-pub struct TextFeed<'a, T: Text> {
-    text: &'a [u8],
+pub struct TextFeed<T: Text> {
+    // The text, until its last byte is given.
+    text: Option<Vec<u8>>,
     count: usize,
     is_ended: bool,
     of: PhantomData<T>,
-    ghost same: { text.now ≡ T.text },
-    ghost within: { count ≤ length text.now },
-    ghost whole: { is_ended ≡ true → length text.now ≤ count },
+    ghost same: { (bytes : Vec ℕ) → text ≡ Some bytes → bytes.items ≡ T.text },
+    ghost within: { count ≤ length T.text },
+    ghost given: { text ≡ None → length T.text ≤ count },
+    ghost whole: { is_ended ≡ true → length T.text ≤ count },
 }
 
-impl<'a, T: Text> TextFeed<'a, T> {
+impl<T: Text> TextFeed<T> {
     /// A reader that has given nothing of a text.
-    pub fn new(text: &'a [u8]) -> TextFeed<'a, T>
-        requires { text.now ≡ T.text }
+    pub fn new(text: Vec<u8>) -> TextFeed<T>
+        requires { text.items ≡ T.text }
         ensures count { result.count ≡ 0 }
         ensures not_ended { result.is_ended ≡ false }
     {
         TextFeed {
-            text,
+            text: Some(text),
             count: 0,
             is_ended: false,
             of: PhantomData,
@@ -43,7 +46,7 @@ impl<'a, T: Text> TextFeed<'a, T> {
     }
 }
 
-impl<T: Text> Feed for TextFeed<'_, T> {
+impl<T: Text> Feed for TextFeed<T> {
     ghost bytes_read = { λ f. take f.count T.text };
 
     ghost ended = { λ f. f.is_ended };
@@ -54,11 +57,19 @@ impl<T: Text> Feed for TextFeed<'_, T> {
 
     /// Gives the next bytes of the text, as many as the buffer has room for.
     fn read(&mut self, buffer: &mut [u8]) -> io::Result<usize> {
-        let rest = &self.text[self.count..];
+        let Some(text) = &self.text else {
+            self.is_ended = self.is_ended || !buffer.is_empty();
+            return Ok(0);
+        };
+        let rest = &text[self.count..];
         let count = buffer.len().min(rest.len());
         buffer[..count].copy_from_slice(&rest[..count]);
-        self.count += count;
+        let is_all = count == rest.len();
         self.is_ended = self.is_ended || (count == 0 && !buffer.is_empty());
+        self.count += count;
+        if is_all {
+            self.text = None;
+        }
         Ok(count)
     }
 }

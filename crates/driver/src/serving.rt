@@ -196,7 +196,7 @@ fn run_file<'a, B: Fn(Global, RunOrder<'_>) -> Result<Outcome, AllocError>, F: F
         Err(error) => return (Err(error), None),
     };
     let programs = CompiledPrograms::new(plans, programs.refused, by);
-    let (ended, state) = run_text(alloc, &programs, &text, out);
+    let (ended, state) = run_text(alloc, &programs, text, out);
     (ended_as(ended), Some(state))
 }
 

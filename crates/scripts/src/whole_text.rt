@@ -10,18 +10,19 @@ use devices::{Drain, Text, TextFeed};
 use std::alloc::Global;
 use std::marker::Brand;
 
-/// Runs the script that a text is, as [`script`] does.
+/// Runs the script that a text is, as [`script`] does. The text's memory is given back before the replies to its last bytes are
+/// written.
 ///
 /// Errors: `WriteFailed` where the writer failed in this call, or `NoMemory`; never `ReadFailed`. What was
 /// written is then a beginning of the replies to the text.
 pub fn run_text<P: Programs, W: Drain>(
     alloc: Global,
     programs: &P,
-    text: &[u8],
+    text: Vec<u8>,
     writer: &mut W,
 ) -> (Result<bool, ScriptError>, ScriptState)
     requires ready { P.are_ready programs.now }
-    ensures { RunsText (P.trees programs.now) text.now
+    ensures { RunsText (P.trees programs.now) text.items
         (taken_by_writer (W.bytes_written writer.old) (W.failures writer.old))
         (taken_by_writer (W.bytes_written writer.new) (W.failures writer.new)) result.0 }
 {
@@ -32,15 +33,15 @@ pub fn run_text<P: Programs, W: Drain>(
 fn run_known<T: Text, P: Programs, W: Drain>(
     alloc: Global,
     programs: &P,
-    text: &[u8],
+    text: Vec<u8>,
     writer: &mut W,
 ) -> (Result<bool, ScriptError>, ScriptState)
     requires ready { P.are_ready programs.now }
-    requires text { text.now ≡ T.text }
-    ensures { RunsText (P.trees programs.now) text.now
+    requires text { text.items ≡ T.text }
+    ensures { RunsText (P.trees programs.now) text.items
         (taken_by_writer (W.bytes_written writer.old) (W.failures writer.old))
         (taken_by_writer (W.bytes_written writer.new) (W.failures writer.new)) result.0 }
 {
-    let mut reader: TextFeed<'_, T> = TextFeed::new(text);
+    let mut reader: TextFeed<T> = TextFeed::new(text);
     script(alloc, programs, &mut reader, writer)
 }

@@ -13,10 +13,9 @@ use Rattle.edge_differences.specs.Listed.{AreSameBut, is_listed}
 use Rattle.edge_differences.specs.Named.{EachFits, named_in, named_in_all}
 use Rattle.edge_differences.proofs.Unnamed.{all_changed, digraph_through}
 use Rattle.version_list.specs.declared.step.Step.{Step}
-use Rattle.version_list.specs.declared.step.Which.{Which}
 use Rattle.version_list.specs.declared.step.Step.TheVariants.{Commit, Acquire, Release, Trim}
 use Rattle.version_list.specs.declared.step.Done.{Done}
-use Rattle.version_list.specs.Machine.{State, committed_by, commits_of, lacks_room, newest_graph, newest_number, reply_to, state_after, version_graph}
+use Rattle.version_list.specs.Machine.{State, committed_by, commits_of, newest_graph, newest_number, reply_to, state_after, version_graph}
 use Rattle.version_list.specs.Timeline.{Timeline, IsAccepted, IsLegal, replay}
 use Rattle.version_list.specs.inside.Fields.{IsFaithful, base, timeline}
 use Rattle.version_list.specs.declared.versions.Versions.TheInside.{Inside}

@@ -1,5 +1,5 @@
 -- Proofs of `finish_trim`, src/versions.rt.
-use Rattle.std.proofs.Common.{◌≡◌, rules, sym, subst}
+use Rattle.std.proofs.Common.{rules, sym, subst}
 use Rattle.tree_batch.specs.Digraph.{IsDigraph}
 use Rattle.version_list.specs.declared.step.Step.TheVariants.{Trim}
 use Rattle.version_list.specs.Machine.{State, newest_graph, reply_to}
