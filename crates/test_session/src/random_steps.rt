@@ -120,8 +120,8 @@ fn replies_at_once(alloc: Global, steps: &[SessionStep]) -> Result<Vec<SessionRe
     Ok(session.run(alloc, steps)?)
 }
 
-// Checks that a session answers a random list of steps as the plain world does, one by one and all at once, and that its jobs show
-// the same afterwards.
+// Checks that a session answers a random list of steps as the plain world does, one by one and all at once, and that after
+// them each job with a number below 8 shows the same entries, members, text, end and turns in both, or is in neither.
 fn check_list(alloc: Global, plans: &[Arc<Plan>], seed: u64) -> Result<Checked, Fail> {
     let steps = random_steps(alloc, seed)?;
     let replies = replies_at_once(alloc, &steps)?;

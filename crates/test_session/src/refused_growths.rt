@@ -69,21 +69,25 @@ fn take_twice(
     }
 }
 
-// How often steps were answered 900, and how often they were answered as they should be. A step that was answered 900 is
-// taken again.
+// How often steps were answered 900, and the index and the reply of the first step with another reply than it must have.
+type Taken = (u32, Option<(usize, SessionReply)>);
+
+// Takes steps, and a step that was answered 900 again. It asks for no memory of its own.
 fn take(
     alloc: Global,
     session: &mut Session,
     steps: Vec<SessionStep>,
     again: Vec<SessionStep>,
-) -> Result<(u32, u32), SessionError> {
-    let (mut refused, mut answered) = (0u32, 0u32);
+) -> Result<Taken, SessionError> {
+    let (mut refused, mut wrong) = (0u32, None);
     for (index, (step, again)) in steps.into_iter().zip(again).enumerate() {
         let (reply, was_refused) = take_twice(alloc, session, step, again)?;
         refused = refused.wrapping_add(u32::from(was_refused));
-        answered = answered.wrapping_add(u32::from(REPLIES.get(index) == Some(&reply)));
+        if wrong.is_none() && REPLIES.get(index) != Some(&reply) {
+            wrong = Some((index, reply));
+        }
     }
-    Ok((refused, answered))
+    Ok((refused, wrong))
 }
 
 #[test]
@@ -91,12 +95,15 @@ fn ten_steps_of_a_session(rt: HostRuntime) -> Result<(), Fail> {
     let alloc = rt.alloc();
     let mut session = session(alloc)?;
     let (steps, again) = (steps_of(alloc, &TEN_STEPS)?, steps_of(alloc, &TEN_STEPS)?);
+    assert_eq!(rt; steps.len(), REPLIES.len(), "how many steps there are");
     let asked = ask(&rt);
     let taken = take(alloc, &mut session, steps, again);
     let told = tell(&rt, matches!(taken, Ok((1, _))));
     let shown = check_job(alloc, &session, 1, &HALFWAY)?;
     drop(session);
+    let (refused, wrong) = taken?;
     assert_eq!(rt; asked.and(told).and(shown), Ok(()));
-    assert!(rt; taken == Ok((0, 10)) || taken == Ok((1, 10)), "{taken:?}");
+    assert_eq!(rt; wrong, None, "a step with another reply");
+    assert!(rt; refused <= 1, "{refused} steps were answered 900");
     Ok(())
 }

@@ -54,7 +54,7 @@ pub(crate) fn shown_by(outcome: &Outcome) -> Shown<'_> {
     }
 }
 
-// Checks that both are the same.
+// Checks that both show the same entries, members, text, end and turns.
 fn check_same(one: &Shown<'_>, other: &Shown<'_>) -> Checked {
     check(one.entries == other.entries, "the entries")?;
     check(one.members == other.members, "the members")?;

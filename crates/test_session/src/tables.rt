@@ -259,7 +259,8 @@ fn check_replies(rows: &[Row], replies: &[SessionReply]) -> Checked {
     check(taken == replies.len(), "how many replies there are")
 }
 
-// Checks that a session that takes all steps of a table at once answers alike, and shows at the end what the last row says.
+// Checks that a session that takes all steps of a table at once gives the replies of its rows, and that its job shows at the end what
+// the last row says.
 fn check_at_once(alloc: Global, rows: &[Row]) -> Result<Checked, Fail> {
     let mut session = session(alloc)?;
     let steps = steps_of_rows(alloc, rows)?;

@@ -189,7 +189,7 @@ fn call_asked<J: Naming, R: Threads + Wait + Print + Sync>(
     let asked = ask(rt);
     let first = call_on(rt, alloc, graph, &mut me.reader, kept, (call, batch));
     let told = tell(rt, first == REFUSED);
-    need(asked.and(told).is_ok(), Failure::Print)?;
+    asked.and(told).map_err(Failure::Print)?;
     if first != REFUSED {
         return first;
     }

@@ -9,8 +9,8 @@ pub(crate) enum Failure {
     Refused(u16),
     /// The test has no memory for it.
     Memory,
-    /// The lines around it are not printed.
-    Print,
+    /// This line around it is not printed.
+    Print(&'static str),
     /// A reader makes no such call, or there is no such reader.
     Call,
     /// No version is held.
@@ -19,9 +19,9 @@ pub(crate) enum Failure {
     Ticket,
     Vertices,
     Edges,
-    /// Neighbours of a version, or of the graph after the next batch, have another chunk size.
-    ChunkSize,
-    NextChunkSize,
+    /// These neighbours of a version, or of the graph after the next batch, have another chunk size.
+    ChunkSize(&'static str),
+    NextChunkSize(&'static str),
     /// The number of a version is not the next one, or less than one before.
     Number,
     /// Readers, or one reader again, are given another newest version.

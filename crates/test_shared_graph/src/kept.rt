@@ -109,7 +109,7 @@ pub(crate) fn held_in_chunks<J: Naming>(
         Some(Kept { held: Some(held) }) => {
             let version = held.snapshot();
             let stand = stand_in_chunks(&version.graph, 5, chunk_size);
-            need(stand.is_ok(), Failure::ChunkSize)?;
+            stand.map_err(Failure::ChunkSize)?;
             check_next(alloc, &version.graph, chunk_size)?;
             Ok(version.number)
         }
@@ -121,10 +121,7 @@ pub(crate) fn held_in_chunks<J: Naming>(
 fn check_next(alloc: Global, graph: &Graph, chunk_size: u32) -> Result<(), Failure> {
     let batch = hub_batch(alloc, 5, (true, true)).map_err(|_| Failure::Memory)?;
     match graph.apply(alloc, &batch) {
-        Ok(next) => need(
-            stand_in_chunks(&next, 6, chunk_size).is_ok(),
-            Failure::NextChunkSize,
-        ),
+        Ok(next) => stand_in_chunks(&next, 6, chunk_size).map_err(Failure::NextChunkSize),
         Err(error) => Err(Failure::Refused(error.number())),
     }
 }

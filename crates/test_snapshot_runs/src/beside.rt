@@ -1,6 +1,6 @@
 //! Runs beside a writer, on another thread.
 
-use crate::calls::commit;
+use crate::calls::{commit, trim};
 use crate::failure::{Answer, Failure, need};
 use crate::programs::Program;
 use crate::running::{planned, run_newest};
@@ -31,8 +31,8 @@ const COMMITS: u64 = 200;
 // How many runs a reader makes beside a writer.
 const RUNS: u32 = 40;
 
-/// The number of the last version, if all commits of the first reader are made, and each run of the second beside them is of its
-/// version.
+/// The number of the last version, if each commit and each trim of the first reader is answered as it must be, and each run of the
+/// second beside them is of its version.
 pub(crate) fn run_beside<J: Naming + Send + Sync, R: Threads + Wait + Sync>(
     rt: &R,
     alloc: Global,
@@ -43,49 +43,48 @@ pub(crate) fn run_beside<J: Naming + Send + Sync, R: Threads + Wait + Sync>(
         return Err(Failure::Call);
     };
     let plan = planned(alloc, Program::OnPaths.text())?;
-    let (made, right) = join(
+    let (made, ran) = join(
         rt,
         || commit_all(rt, alloc, graph, writer),
         || run_all(rt, alloc, &plan, reader),
     );
-    need(made == COMMITS, Failure::Commits(made))?;
-    need(right == RUNS, Failure::Runs(right))?;
-    Ok(COMMITS)
+    let newest = made?;
+    ran?;
+    Ok(newest)
 }
 
-// How many commits are made until one is not, or a trim after each eighth does not drop these eight.
+// Makes all commits, and trims after each eighth. The answer is the number of the last version, if each commit has the next number,
+// and each trim drops the eight commits before it.
 fn commit_all<J: Naming, R: Threads + Wait + Sync>(
     rt: &R,
     alloc: Global,
     graph: &SharedGraph<J, &R>,
     me: &mut Reader<J>,
-) -> u64 {
-    let mut made = 0;
+) -> Answer {
     for number in 1..=COMMITS {
-        if commit(rt, alloc, graph, me, step_to(number)) != Ok(number) {
-            return made;
+        let made = commit(rt, alloc, graph, me, step_to(number))?;
+        need(made == number, Failure::Commit(made))?;
+        if number % 8 == 0 {
+            let dropped = trim(rt, graph, me)?;
+            need(dropped == 8, Failure::Trim(dropped))?;
         }
-        if number % 8 == 0 && graph.trim(rt, me) != Ok(8) {
-            return made;
-        }
-        made = number;
     }
-    made
+    Ok(COMMITS)
 }
 
-// How many runs are of their versions, until one is not, or its version is older than the one before.
+// Makes all runs. The answer is the number of the last version, if each run shows what its version must, and no version is older than
+// the one before.
 fn run_all<J: Naming, R: Threads + Sync>(
     rt: &R,
     alloc: Global,
     plan: &Plan,
     me: &mut Reader<J>,
-) -> u32 {
+) -> Answer {
     let mut seen = 0;
-    for right in 0..RUNS {
-        match run_newest(rt, alloc, plan, me, (Program::OnPaths, 2)) {
-            Ok(number) if number >= seen => seen = number,
-            _ => return right,
-        }
+    for _ in 0..RUNS {
+        let number = run_newest(rt, alloc, plan, me, (Program::OnPaths, 2))?;
+        need(number >= seen, Failure::Older(number))?;
+        seen = number;
     }
-    RUNS
+    Ok(seen)
 }

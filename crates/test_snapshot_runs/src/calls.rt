@@ -104,6 +104,15 @@ pub(crate) fn commit<J: Naming, R: Threads + Wait + Sync>(
     }
 }
 
+/// Trims in the name of a reader.
+pub(crate) fn trim<J: Naming, R: Wait>(
+    rt: &R,
+    graph: &SharedGraph<J, &R>,
+    me: &mut Reader<J>,
+) -> Answer {
+    answer(graph.trim(rt, me))
+}
+
 fn hold<J: Naming, R: Wait>(
     rt: &R,
     alloc: Global,
@@ -200,7 +209,7 @@ fn call_by<J: Naming, R: Threads + Wait + Print + Sync>(
         Call::Step(number) => commit(rt, alloc, graph, me, step_to(number)),
         Call::Hold(which) => hold(rt, alloc, graph, me, (kept, which)),
         Call::Release => release(rt, graph, me, kept),
-        Call::Trim => answer(graph.trim(rt, me)),
+        Call::Trim => trim(rt, graph, me),
         Call::Held(at, program, workers) => {
             run_kept(rt, alloc, kept.get(at), (program, workers))
         }

@@ -9,8 +9,8 @@ pub(crate) enum Failure {
     NotCompiled(u16),
     /// The test has no memory for it.
     Memory,
-    /// The lines around it are not printed.
-    Print,
+    /// This line around it is not printed.
+    Print(&'static str),
     /// A reader makes no such call, or there is no such reader.
     Call,
     /// No version is held.
@@ -28,10 +28,12 @@ pub(crate) enum Failure {
     Vertices,
     Replies,
     Programs,
-    /// Beside runs only so many commits are made.
-    Commits(u64),
-    /// Beside commits only so many runs are right.
-    Runs(u32),
+    /// Beside runs a commit makes the version of this number, which is not the next one.
+    Commit(u64),
+    /// Beside runs a trim drops so many entries, and not those since the last trim.
+    Trim(u64),
+    /// Beside commits a run is on the version of this number, which is older than that of the run before.
+    Older(u64),
 }
 
 /// The answer to a call: the number of a version, how many entries were dropped, or 0.

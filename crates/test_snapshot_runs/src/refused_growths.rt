@@ -5,7 +5,7 @@
 //! another of the requests for memory that are made between the lines "asked" and "900" or "whole".
 
 use crate::calls::{Call, Table, check_table};
-use crate::failure::{Answer, Failure, REFUSED, need};
+use crate::failure::{Answer, Failure, REFUSED};
 use crate::programs::{Counting, Program, TURNS};
 use crate::racing::{RACE, run_race};
 use crate::running::planned;
@@ -59,7 +59,7 @@ fn planned_again<R: Print>(rt: &R, alloc: Global) -> Result<Plan, Failure> {
     let first = planned(alloc, Program::OnPaths.text());
     let is_refused = matches!(first, Err(Failure::NotCompiled(900)));
     let told = tell(rt, is_refused);
-    need(asked.and(told).is_ok(), Failure::Print)?;
+    asked.and(told).map_err(Failure::Print)?;
     if is_refused {
         return planned(alloc, Program::OnPaths.text());
     }

@@ -94,7 +94,7 @@ pub(crate) fn run_asked<J: Naming, R: Threads + Print + Sync>(
     } else {
         first
     };
-    need(asked.and(told).is_ok(), Failure::Print)?;
+    asked.and(told).map_err(Failure::Print)?;
     need(ran.is_err() || ran == newest, Failure::Version)?;
     ran
 }

@@ -105,24 +105,30 @@ const PAIRS: [(u32, i64); 6] = [(1, -1), (2, 7), (3, 5), (4, 1), (5, 300), (6, 1
 #[test]
 fn puts_cut_sets_together(rt: HostRuntime) -> Result<(), Fail> {
     for key in 0..8 {
-        assert!(rt; is_put_together(rt.alloc(), key)?, "cut at {key}");
+        assert_eq!(rt;
+            check_put_together(rt.alloc(), key)?,
+            Ok(()),
+            "cut at {key}"
+        );
     }
     Ok(())
 }
 
-// Whether a set that is cut at a key and joined, with the key where it is a head and without it else,
+// Checks that a set that is cut at a key and joined, with the key where it is a head and without it else,
 // has the entries that it should.
-fn is_put_together(alloc: Global, key: u32) -> Result<bool, Fail> {
+fn check_put_together(alloc: Global, key: u32) -> Result<Checked, Fail> {
     let set = CTree::from_sorted(alloc, 4, &PAIRS)?;
     let cut = set.view().cut(alloc, key)?;
     let weight = cut.found.unwrap_or(1);
     if set.chunk_size().is_head(key) && cut.found.is_some() {
         let part = cut.below.join(alloc, key, weight, cut.above)?;
-        return Ok(part.view().iter().eq(set.iter()));
+        let is_whole = part.view().iter().eq(set.iter());
+        return Ok(check(is_whole, "the entries of a join with the key"));
     }
     let part = cut.below.join2(alloc, cut.above)?;
     let others = set.iter().filter(|entry| entry.0 != key);
-    Ok(part.view().iter().eq(others))
+    let is_rest = part.view().iter().eq(others);
+    Ok(check(is_rest, "the entries of a join without the key"))
 }
 
 #[test]
@@ -153,6 +159,6 @@ fn spells_a_set_as_one_list(rt: HostRuntime) -> Result<(), Fail> {
     let mut bytes = Vec::new(rt.alloc());
     set.append_spelling(&mut bytes)?;
     let tail = Tail::encode(rt.alloc(), None, &PAIRS)?;
-    assert!(rt; bytes.as_slice() == tail.bytes());
+    assert_eq!(rt; bytes.as_slice(), tail.bytes(), "the bytes of the set");
     Ok(())
 }

@@ -105,8 +105,9 @@ const OUT_OF_ORDER: [(Option<u32>, &[(u32, i64)]); 4] = [
 #[test]
 fn refuses_keys_out_of_order(rt: HostRuntime) -> Result<(), Fail> {
     for (base, list) in &OUT_OF_ORDER {
-        assert!(rt;
-            Tail::encode(rt.alloc(), *base, list).err() == Some(TailError::NotAscending),
+        assert_eq!(rt;
+            Tail::encode(rt.alloc(), *base, list).err(),
+            Some(TailError::NotAscending),
             "{list:?}"
         );
     }
@@ -150,8 +151,9 @@ fn puts_a_list_together_in_its_bytes(rt: HostRuntime) -> Result<(), Fail> {
     bytes.extend_from_slice(cut.below.bytes())?;
     append_entry(&mut bytes, distance, cut.found.unwrap_or(1))?;
     bytes.extend_from_slice(rest.bytes())?;
-    assert!(rt;
-        bytes.as_slice() == whole.bytes(),
+    assert_eq!(rt;
+        bytes.as_slice(),
+        whole.bytes(),
         "the bytes of a list cut at 3"
     );
     assert!(rt; cut.above.iter().eq(rest.iter()), "what is above 3");

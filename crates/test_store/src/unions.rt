@@ -106,24 +106,20 @@ impl Pair {
         let list = merge_entries(alloc, operation, &first, &second)?;
         let entries = set.view().entries(alloc)?;
         let entries = entries.lent();
-        Ok(check(are_same(&list.lent(), &entries), "the entries").and(check(
+        Ok(check_same(&entries, &list.lent()).and(check(
             set.len() == entries.len(),
-            "the length",
+            "how many entries the set counts",
         )))
     }
 }
 
-// Whether entries in columns are the same.
-fn are_same(some: &Entries<'_>, others: &Entries<'_>) -> bool {
-    if some.keys() != others.keys() || some.len() != others.len() {
-        return false;
+// Checks that entries in columns have the keys and the weights of others.
+fn check_same(found: &Entries<'_>, wanted: &Entries<'_>) -> Checked {
+    check(found.keys() == wanted.keys(), "the keys")?;
+    for index in 0..found.len().min(wanted.len()) {
+        check(found.weight(index) == wanted.weight(index), "a weight")?;
     }
-    for index in 0..some.len() {
-        if some.weight(index) != others.weight(index) {
-            return false;
-        }
-    }
-    true
+    Ok(())
 }
 
 fn entries_of(alloc: Global, (from, step, count, weight): Shape) -> Result<Vec<(u32, i64)>, Fail> {
