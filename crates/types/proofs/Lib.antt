@@ -1,5 +1,4 @@
 pub mod Applies
-pub mod BlockLaws
 pub mod DeclarationLaws
 pub mod EdgeWrites
 pub mod Kept
@@ -7,7 +6,6 @@ pub mod Literals
 pub mod SourceOffsets
 pub mod Sources
 pub mod StatementOffsets
-pub mod StepLaws
 pub mod StepOffsets
 pub mod ValueOffsets
-pub mod Variables
+pub mod Walk

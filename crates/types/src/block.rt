@@ -1,39 +1,38 @@
-//! Blocks of `main`: typing of its statements, one after the other.
+//! Blocks: typing of statements, one after the other, in `main` and in functions.
 ghost use Rattle.std.specs.Prelude.{◌≡◌, OnOk};
-ghost use Rattle.syntax.specs.SourceViews.{statement_kind_tree as source_action, for_loop_tree, simple_action_tree, block_tree as source_block};
-ghost use Rattle.typed_tree.specs.BlockTree.{Empty, simple_statement_tree, statement_kind_tree, block_tree};
+ghost use Rattle.syntax.specs.SourceTrees.{Assign, Declare, Reduce};
+ghost use Rattle.syntax.specs.SourceViews.{statement_kind_tree, for_loop_tree, initial_tree, parameter_tree, simple_action_tree, block_tree};
 ghost use Rattle.expression_types.specs.Faults.{ReportsFaults};
 ghost use Rattle.expression_types.specs.ScopeTree.{KeepsNames};
-ghost use Rattle.types.specs.Block.{action_typed, statements_typed};
-ghost use Rattle.types.specs.inside.Block.{block_typed, statement_tree, statement_typed};
+ghost use Rattle.types.specs.inside.BlockMeaning.{block_typed, declared_from, inner_typed, statement_typed};
 ghost use Rattle.types.specs.inside.Checker.{checker_of};
+ghost use Rattle.types.specs.inside.Initializer.{initializer_tree};
 
-use crate::checker::{Checker, count, declare_loop_variable, label};
+use crate::block_kind::{BlockKind, Compound};
+use crate::checker::{Checker, declare, declare_loop_variable, label};
 use crate::entry::WrittenEntry;
-use crate::statement::{
-    add_vertex, apply, assign, declare_variable, print, reduce, reduce_entry, set_entry,
-};
+use crate::initial::{Initializer, read_initial};
 use crate::wanted::{condition, integer};
-use expression_types::Fault;
+use apply_options::Reduction;
+use expression_types::{Fault, entity, type_expression};
 use std::alloc::{AllocError, Global};
-use syntax::{Action, ForLoop, SimpleAction};
-use typed_tree::{MainStatement, SimpleStatement, StatementKind};
+use syntax::{Action, Expression, ForLoop, Initial, Name, Parameter, SimpleAction, Statement};
 
 /// Statements in order. What they declare stays visible after them.
 #[cycle(statements)]
-pub(crate) fn statements(
+pub(crate) fn statements<K: BlockKind>(
     alloc: Global,
-    block: &[syntax::Statement],
+    block: &[Statement],
     checker: &mut Checker,
     first_fault: &mut Option<Fault>,
-) -> Result<Vec<MainStatement>, AllocError>
-    ensures typed { ReportsFaults (λ b. (block_tree b.items, checker_of checker.new)) first_fault.old first_fault.new result
-        (statements_typed (checker_of checker.old) Empty (source_block block.now)) }
+) -> Result<Vec<K::Statement>, AllocError>
+    ensures typed { ReportsFaults (λ b. (K.meaning.row_tree b.items, checker_of checker.new)) first_fault.old first_fault.new result
+        (block_typed K.meaning (checker_of checker.old) (block_tree block.now)) }
     ensures kept { OnOk result (KeepsNames checker.old.scope checker.new.scope) }
 {
     let mut typed = Vec::new(alloc);
     'statements: for statement in block {
-        let next = one(alloc, statement, checker, first_fault)?;
+        let next = one::<K>(alloc, statement, checker, first_fault)?;
         typed.push(next)?;
     }
     Ok(typed)
@@ -41,70 +40,64 @@ pub(crate) fn statements(
 
 /// One statement, with its number and its label.
 #[cycle(statements)]
-fn one(
+fn one<K: BlockKind>(
     alloc: Global,
-    statement: &syntax::Statement,
+    statement: &Statement,
     checker: &mut Checker,
     first_fault: &mut Option<Fault>,
-) -> Result<MainStatement, AllocError>
-    ensures typed { ReportsFaults (λ s. (statement_tree s, checker_of checker.new)) first_fault.old first_fault.new result
-        (statement_typed (checker_of checker.old) statement.now.label (source_action statement.now.action)) }
+) -> Result<K::Statement, AllocError>
+    ensures typed { ReportsFaults (λ s. (K.meaning.statement_tree s, checker_of checker.new)) first_fault.old first_fault.new result
+        (statement_typed K.meaning (checker_of checker.old) statement.now.label (statement_kind_tree statement.now.action)) }
     ensures kept { OnOk result (KeepsNames checker.old.scope checker.new.scope) }
 {
     let label = label(alloc, checker, &statement.label, first_fault)?;
-    let number = count(checker, label)?;
-    let action = action(alloc, &statement.action, checker, first_fault)?;
-    Ok(MainStatement {
-        number,
-        label,
-        action,
-    })
+    let number = K::number(checker, label)?;
+    let action = action::<K>(alloc, &statement.action, checker, first_fault)?;
+    Ok(K::labelled(number, label, action))
 }
 
 /// A block of its own, after which the names that it declares are forgotten.
 #[cycle(statements)]
-fn inner(
+fn inner<K: BlockKind>(
     alloc: Global,
-    block: &[syntax::Statement],
+    block: &[Statement],
     checker: &mut Checker,
     first_fault: &mut Option<Fault>,
-) -> Result<Vec<MainStatement>, AllocError>
-    ensures typed { ReportsFaults (λ b. (block_tree b.items, checker_of checker.new)) first_fault.old first_fault.new result
-        (block_typed (checker_of checker.old) (source_block block.now)) }
+) -> Result<Vec<K::Statement>, AllocError>
+    ensures typed { ReportsFaults (λ b. (K.meaning.row_tree b.items, checker_of checker.new)) first_fault.old first_fault.new result
+        (inner_typed K.meaning (checker_of checker.old) (block_tree block.now)) }
     ensures kept { OnOk result (KeepsNames checker.old.scope checker.new.scope) }
 {
     let mark = checker.scope.mark();
-    let typed = statements(alloc, block, checker, first_fault)?;
+    let typed = statements::<K>(alloc, block, checker, first_fault)?;
     checker.scope.leave(mark);
     Ok(typed)
 }
 
 /// What a statement does.
 #[cycle(statements)]
-fn action(
+fn action<K: BlockKind>(
     alloc: Global,
     action: &Action,
     checker: &mut Checker,
     first_fault: &mut Option<Fault>,
-) -> Result<StatementKind, AllocError>
-    ensures typed { ReportsFaults (λ a. (statement_kind_tree a, checker_of checker.new)) first_fault.old first_fault.new result
-        (action_typed (checker_of checker.old) (source_action action.now)) }
+) -> Result<K::Action, AllocError>
+    ensures typed { ReportsFaults (λ a. (K.meaning.action_tree a, checker_of checker.new)) first_fault.old first_fault.new result
+        (K.meaning.action_typed (checker_of checker.old) (statement_kind_tree action.now)) }
     ensures kept { OnOk result (KeepsNames checker.old.scope checker.new.scope) }
 {
     match action {
-        Action::Simple(action) => {
-            let typed = without_block(alloc, action, checker, first_fault)?;
-            Ok(StatementKind::Simple(typed))
-        }
+        Action::Simple(action) => without_block::<K>(alloc, action, checker, first_fault),
         Action::While { at, test, body } => {
+            K::note_loop(*at, first_fault);
             let test = condition(alloc, &checker.scope, *at, test, first_fault)?;
-            let body = inner(alloc, body, checker, first_fault)?;
-            Ok(StatementKind::While(test, body))
+            let body = inner::<K>(alloc, body, checker, first_fault)?;
+            Ok(K::with_blocks(alloc, Compound::While(test, body)))
         }
         Action::If { at, test, body } => {
             let test = condition(alloc, &checker.scope, *at, test, first_fault)?;
-            let body = inner(alloc, body, checker, first_fault)?;
-            Ok(StatementKind::If(test, body))
+            let body = inner::<K>(alloc, body, checker, first_fault)?;
+            Ok(K::with_blocks(alloc, Compound::If(test, body)))
         }
         Action::IfElse {
             at,
@@ -113,23 +106,46 @@ fn action(
             otherwise,
         } => {
             let test = condition(alloc, &checker.scope, *at, test, first_fault)?;
-            let body = inner(alloc, body, checker, first_fault)?;
-            let other = inner(alloc, otherwise, checker, first_fault)?;
-            Ok(StatementKind::IfElse(test, body, other))
+            let body = inner::<K>(alloc, body, checker, first_fault)?;
+            let other = inner::<K>(alloc, otherwise, checker, first_fault)?;
+            Ok(K::with_blocks(alloc, Compound::IfElse(test, body, other)))
         }
-        Action::For(for_loop) => repeat(alloc, for_loop, checker, first_fault),
+        Action::For(for_loop) => repeat::<K>(alloc, for_loop, checker, first_fault),
     }
 }
 
+/// A `for`, whose name is visible in its body.
+#[cycle(statements)]
+fn repeat<K: BlockKind>(
+    alloc: Global,
+    for_loop: &ForLoop,
+    checker: &mut Checker,
+    first_fault: &mut Option<Fault>,
+) -> Result<K::Action, AllocError>
+    ensures typed { ReportsFaults (λ a. (K.meaning.action_tree a, checker_of checker.new)) first_fault.old first_fault.new result
+        (K.meaning.action_typed (checker_of checker.old) (for_loop_tree for_loop.now)) }
+    ensures kept { OnOk result (KeepsNames checker.old.scope checker.new.scope) }
+{
+    let at = for_loop.at;
+    K::note_loop(at, first_fault);
+    let first = integer(alloc, &checker.scope, at, &for_loop.first, first_fault)?;
+    let limit = integer(alloc, &checker.scope, at, &for_loop.limit, first_fault)?;
+    let mark = checker.scope.mark();
+    let slot = declare_loop_variable(alloc, checker, &for_loop.name, first_fault)?;
+    let body = statements::<K>(alloc, &for_loop.body, checker, first_fault)?;
+    checker.scope.leave(mark);
+    Ok(K::with_blocks(alloc, Compound::For(slot.name, first, limit, body)))
+}
+
 /// What a statement without a block does.
-fn without_block(
+fn without_block<K: BlockKind>(
     alloc: Global,
     action: &SimpleAction,
     checker: &mut Checker,
     first_fault: &mut Option<Fault>,
-) -> Result<SimpleStatement, AllocError>
-    ensures typed { ReportsFaults (λ a. (simple_statement_tree a, checker_of checker.new)) first_fault.old first_fault.new result
-        (action_typed (checker_of checker.old) (simple_action_tree action.now)) }
+) -> Result<K::Action, AllocError>
+    ensures typed { ReportsFaults (λ a. (K.meaning.action_tree a, checker_of checker.new)) first_fault.old first_fault.new result
+        (K.meaning.action_typed (checker_of checker.old) (simple_action_tree action.now)) }
     ensures kept { OnOk result (KeepsNames checker.old.scope checker.new.scope) }
 {
     match action {
@@ -137,25 +153,28 @@ fn without_block(
             at,
             variable,
             initial,
-        } => declare_variable(alloc, checker, *at, variable, initial, first_fault),
-        SimpleAction::Print { at, value } => print(alloc, &checker.scope, *at, value, first_fault),
-        SimpleAction::Assign { name, value } => assign(alloc, checker, name, value, first_fault),
+        } => declare_variable::<K>(alloc, checker, *at, variable, initial, first_fault),
+        SimpleAction::Print { at, value } => K::print(alloc, checker, *at, value, first_fault),
+        SimpleAction::Assign { name, value } => assign::<K>(
+            alloc,
+            checker,
+            name,
+            value,
+            first_fault,
+        ),
         SimpleAction::Reduce {
             name,
             reduction,
             value,
-        } => reduce(alloc, &checker.scope, name, *reduction, value, first_fault),
+        } => reduce::<K>(alloc, checker, name, *reduction, value, first_fault),
         SimpleAction::SetEntry {
             vector,
             index,
             value,
-        } => set_entry(
-            alloc,
-            &checker.scope,
-            WrittenEntry { vector, index },
-            value,
-            first_fault,
-        ),
+        } => {
+            let written = WrittenEntry { vector, index };
+            K::set_entry(alloc, checker, written, value, first_fault)
+        }
         SimpleAction::ReduceEntry {
             vector,
             index,
@@ -163,44 +182,91 @@ fn without_block(
             value,
         } => {
             let written = WrittenEntry { vector, index };
-            reduce_entry(
-                alloc,
-                &checker.scope,
-                written,
-                *reduction,
-                value,
-                first_fault,
-            )
+            K::reduce_entry(alloc, checker, written, *reduction, value, first_fault)
         }
         SimpleAction::AddVertex { set, vertex } => {
-            add_vertex(alloc, &checker.scope, set, vertex, first_fault)
+            K::add_vertex(alloc, checker, set, vertex, first_fault)
         }
         SimpleAction::Apply {
             target,
             ends,
             function,
-        } => Ok(apply(&checker.scope, target, ends, function, first_fault)),
+        } => Ok(K::apply(alloc, checker, target, ends, function, first_fault)),
     }
 }
 
-/// A `for`, whose name is visible in its body.
-#[cycle(statements)]
-fn repeat(
+/// A declaration of a variable. The name is not visible in its first value.
+fn declare_variable<K: BlockKind>(
     alloc: Global,
-    for_loop: &ForLoop,
     checker: &mut Checker,
+    at: usize,
+    variable: &Parameter,
+    initial: &Initial,
     first_fault: &mut Option<Fault>,
-) -> Result<StatementKind, AllocError>
-    ensures typed { ReportsFaults (λ a. (statement_kind_tree a, checker_of checker.new)) first_fault.old first_fault.new result
-        (action_typed (checker_of checker.old) (for_loop_tree for_loop.now)) }
+) -> Result<K::Action, AllocError>
+    ensures typed { ReportsFaults (λ a. (K.meaning.action_tree a, checker_of checker.new)) first_fault.old first_fault.new result
+        (K.meaning.action_typed (checker_of checker.old) (Declare at (parameter_tree variable.now) (initial_tree initial.now))) }
     ensures kept { OnOk result (KeepsNames checker.old.scope checker.new.scope) }
 {
-    let at = for_loop.at;
-    let first = integer(alloc, &checker.scope, at, &for_loop.first, first_fault)?;
-    let limit = integer(alloc, &checker.scope, at, &for_loop.limit, first_fault)?;
-    let mark = checker.scope.mark();
-    let slot = declare_loop_variable(alloc, checker, &for_loop.name, first_fault)?;
-    let body = statements(alloc, &for_loop.body, checker, first_fault)?;
-    checker.scope.leave(mark);
-    Ok(StatementKind::For(slot.name, first, limit, body))
+    let initializer = read_initial(alloc, checker, at, initial, first_fault)?;
+    declare_initialized::<K>(alloc, checker, at, variable, initializer, first_fault)
+}
+
+fn declare_initialized<K: BlockKind>(
+    alloc: Global,
+    checker: &mut Checker,
+    at: usize,
+    variable: &Parameter,
+    initializer: Initializer,
+    first_fault: &mut Option<Fault>,
+) -> Result<K::Action, AllocError>
+    ensures typed { ReportsFaults (λ a. (K.meaning.action_tree a, checker_of checker.new)) first_fault.old first_fault.new result
+        (declared_from K.meaning (checker_of checker.old) at (parameter_tree variable.now) (initializer_tree initializer)) }
+    ensures kept { OnOk result (KeepsNames checker.old.scope checker.new.scope) }
+{
+    let (entity, action) = K::variable(
+        alloc,
+        checker,
+        at,
+        variable.declared,
+        initializer,
+        first_fault,
+    );
+    declare(alloc, checker, &variable.name, entity, first_fault)?;
+    Ok(action)
+}
+
+/// An assignment to a variable, or to a filter's result.
+fn assign<K: BlockKind>(
+    alloc: Global,
+    checker: &Checker,
+    name: &Name,
+    initial: &Initial,
+    first_fault: &mut Option<Fault>,
+) -> Result<K::Action, AllocError>
+    ensures { ReportsFaults (λ a. (K.meaning.action_tree a, checker_of checker.now)) first_fault.old first_fault.new result
+        (K.meaning.action_typed (checker_of checker.now) (Assign name.now (initial_tree initial.now))) }
+{
+    let at = name.at();
+    let entity = entity(&checker.scope, name, first_fault);
+    let initializer = read_initial(alloc, checker, at, initial, first_fault)?;
+    Ok(K::assignment(alloc, at, initializer, entity, first_fault))
+}
+
+/// A reduction of a variable.
+fn reduce<K: BlockKind>(
+    alloc: Global,
+    checker: &Checker,
+    name: &Name,
+    by: Reduction,
+    value: &Expression,
+    first_fault: &mut Option<Fault>,
+) -> Result<K::Action, AllocError>
+    ensures { ReportsFaults (λ a. (K.meaning.action_tree a, checker_of checker.now)) first_fault.old first_fault.new result
+        (K.meaning.action_typed (checker_of checker.now) (Reduce name.now by value.now)) }
+{
+    let at = name.at();
+    let entity = entity(&checker.scope, name, first_fault);
+    let value = type_expression(alloc, &checker.scope, at, value, first_fault)?;
+    Ok(K::reduction(alloc, at, by, value, entity, first_fault))
 }

@@ -1,10 +1,10 @@
 //! The state of the checker on its way through a source: the scope, names, labels and statements so far.
-ghost use Rattle.std.specs.Prelude.{◌≡◌, suc, IfOk, OnOk};
+ghost use Rattle.std.specs.Prelude.{◌≡◌, IfOk, OnOk};
 ghost use Rattle.expression_types.specs.declared.scope.Entity.TheVariants.{LoopVariable};
 ghost use Rattle.expression_types.specs.Faults.{ReportsFaults};
 ghost use Rattle.expression_types.specs.ScopeTree.{KeepsNames};
 ghost use Rattle.types.specs.inside.Checker.{checker_of};
-ghost use Rattle.types.specs.Checker.{condition_slot as slot_of_condition, counted, declared_in, integer_slot as slot_of_integer, with_label, set_slot as slot_of_set};
+ghost use Rattle.types.specs.Checker.{condition_slot as slot_of_condition, declared_in, integer_slot as slot_of_integer, with_label, set_slot as slot_of_set};
 
 use crate::quoted_names::between_ends;
 use crate::reductions::Reductions;
@@ -156,14 +156,4 @@ pub(crate) fn label(
     checker.labels.push(alloc, label.bytes(), index)?;
     checker.label_names.push(name)?;
     Ok(Some(index))
-}
-
-/// The number of the next statement of `main`, which has this label.
-pub(crate) fn count(checker: &mut Checker, label: Option<usize>) -> Result<u64, AllocError>
-    ensures number { IfOk result (λ number. number ≡ suc (checker_of checker.old).statements) }
-    ensures counted { OnOk result (checker_of checker.new ≡ counted (checker_of checker.old)) }
-    ensures kept { checker.new.scope ≡ checker.old.scope }
-{
-    checker.statements.push(label)?;
-    Ok(checker.statements.len() as u64)
 }

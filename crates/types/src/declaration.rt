@@ -17,11 +17,12 @@ ghost use Rattle.types.specs.Literal.{literal_condition, literal_integer};
 
 use crate::block::statements;
 use crate::checker::{Checker, declare};
+use crate::function::FunctionBlock;
 use crate::function_kind::{is_int, is_vertex, kind_of};
 use crate::initial::{Initializer, read_initial};
 use crate::literal::{condition_literal, integer_literal};
 use crate::reductions::Reductions;
-use crate::step::steps;
+use crate::statement::MainBlock;
 use expression_types::{Entity, Fault, Inside, TypeRule, note};
 use std::alloc::{AllocError, Global};
 use syntax::{Declaration, DeclaredType, Initial, Name, Parameter, Statement};
@@ -591,7 +592,7 @@ fn main_function(
         checker,
         first_fault,
     )?;
-    let body = statements(alloc, written.body, checker, first_fault)?;
+    let body = statements::<MainBlock>(alloc, written.body, checker, first_fault)?;
     checker.scope.leave(mark);
     name_is(alloc, written.name, Entity::Main, declared, first_fault)?;
     keep_main(fits, body, declared);
@@ -630,7 +631,7 @@ fn function(
         checker,
         first_fault,
     )?;
-    let steps = steps(alloc, written.body, checker, first_fault)?;
+    let steps = statements::<FunctionBlock>(alloc, written.body, checker, first_fault)?;
     checker.scope.leave(mark);
     function_is(alloc, kind, written.name, steps, declared, first_fault)
 }

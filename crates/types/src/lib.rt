@@ -12,11 +12,12 @@
 //! (`faults_stand_in_the_source`), and edge functions write by one reduction for each vector
 //! (`edge_functions_only_reduce`).
 //!
-//! One file has one kind of things: declarations, statements of `main` without blocks, their blocks, statements of
-//! functions without blocks, their blocks, initial values, literals, schedules.
+//! One file has one kind of things: declarations, blocks, in what blocks of `main` and of functions differ, statements
+//! of `main`, statements of functions, initial values, literals, schedules.
 #![tactic(auto)]
 
 mod block;
+mod block_kind;
 mod checker;
 mod declaration;
 mod entry;
@@ -31,7 +32,6 @@ mod quoted_names;
 mod reductions;
 mod schedule;
 mod statement;
-mod step;
 mod wanted;
 
 pub use error::CheckError;

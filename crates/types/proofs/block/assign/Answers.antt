@@ -1,0 +1,29 @@
+-- Proofs of `assign`, src/block.rt.
+use Rattle.std.proofs.Common.{◌∙◌, ◌≡◌, ap, subst}
+use Rattle.syntax.specs.SourceViews.{initial_tree}
+use Rattle.expression_types.specs.Expression.{used_name}
+use Rattle.expression_types.specs.Faults.{◌>>=◌, outcome, sure}
+use Rattle.expression_types.proofs.Steps.{outcome_then}
+use Rattle.types.specs.Initial.{initializer_of}
+use Rattle.types.specs.inside.Checker.{checker_of}
+use Rattle.types.specs.inside.Initializer.{initializer_tree}
+use Rattle.types.proofs.block.assign.Goals as goal
+
+pub returns : goal.returns
+returns g c =
+    let m = g.K.BlockKind.meaning in
+    let checker = checker_of c.args.checker.now in
+    let initial = initial_tree c.args.initial.now in
+    let e = c.entity-entity.result in
+    let i = initializer_tree c.in_ok-initializer.initializer in
+    let a = m.action_tree c.assignment.result in
+    let first = c.args.first_fault.now in
+    let between = c.entity-entity.new.first_fault in
+    let new = c.assignment.new.first_fault in
+    ap (outcome first) (g.met.K.BlockKind.walked.assigns checker c.args.name.now initial)
+    ∙ outcome_then first new (used_name checker.scope c.args.name.now >>= λ e. initializer_of checker c.args.name.now.at initial >>= λ i. m.assigned c.args.name.now.at i e) a
+    (λ a. sure (a, checker))
+    (subst (λ at. outcome first (used_name checker.scope c.args.name.now >>= λ e. initializer_of checker at initial >>= λ i. m.assigned at i e) ≡ (a, new)) c.at-at.ensures
+    (outcome_then first between (used_name checker.scope c.args.name.now) e (λ e. initializer_of checker c.at-at.result initial >>= λ i. m.assigned c.at-at.result i e) c.entity-entity.ensures
+    ∙ outcome_then between c.read_initial.new.first_fault (initializer_of checker c.at-at.result initial) i (λ i. m.assigned c.at-at.result i e) c.in_ok-initializer.ensures
+    ∙ c.assignment.ensures))

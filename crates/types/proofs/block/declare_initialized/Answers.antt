@@ -1,0 +1,24 @@
+-- Proofs of `declare_initialized`, src/block.rt.
+use Rattle.std.proofs.Common.{◌∙◌}
+use Rattle.expression_types.specs.Faults.{sure}
+use Rattle.expression_types.proofs.Steps.{outcome_then}
+use Rattle.types.specs.Checker.{declared_in}
+use Rattle.types.specs.inside.BlockMeaning.{visible_then}
+use Rattle.types.specs.inside.Checker.{checker_of}
+use Rattle.types.specs.inside.Initializer.{initializer_tree}
+use Rattle.types.proofs.block.declare_initialized.Goals as goal
+
+pub returns-clause-typed : goal.returns-clause-typed
+returns-clause-typed g c =
+    let m = g.K.BlockKind.meaning in
+    let checker = checker_of c.args.checker.now in
+    let name = c.args.variable.now.name in
+    let v = c.variable-entity.result in
+    let a = m.action_tree v.1 in
+    outcome_then c.args.first_fault.now c.variable-entity.new.first_fault (m.variable_as checker c.args.at (initializer_tree c.args.initializer) c.args.variable.now.declared) (v.0, a)
+    (visible_then checker name) c.variable-entity.ensures
+    ∙ outcome_then c.variable-entity.new.first_fault c.declare.new.first_fault (declared_in checker name v.0) (checker_of c.declare.new.checker) (λ d. sure (a, d))
+    c.in_ok-declare.ensures.declared
+
+pub returns-clause-kept : goal.returns-clause-kept
+returns-clause-kept g c = c.in_ok-declare.ensures.kept
