@@ -19,12 +19,12 @@ returns c =
     let e = c.args.vertex.now in
     let first = c.args.first_fault.now in
     let noted = c.wrong-step.new.first_fault in
-    let named = c.entity-_set.new.first_fault in
+    let named = c.entity-set.new.first_fault in
     let new = c.type_expression.new.first_fault in
     outcome_then first new (no_add scope set.at set e) (function_statement_tree c.wrong-step.result) (λ s. sure (s, checker))
     (subst (λ at. outcome first (no_add scope at set e) ≡ (function_statement_tree c.wrong-step.result, new)) c.at-at.ensures
     (outcome_then first noted (fault_at at rule.WrongType no_step) no_step (λ s. used_name scope set >>= λ n. value_of scope at e >>= λ v. sure s)
     (ap (λ n. (no_step, n)) (sym c.wrong-step.ensures.first_fault))
-    ∙ outcome_then noted named (used_name scope set) c.entity-_set.result (λ n. value_of scope at e >>= λ v. sure no_step) c.entity-_set.ensures
+    ∙ outcome_then noted named (used_name scope set) c.entity-set.result (λ n. value_of scope at e >>= λ v. sure no_step) c.entity-set.ensures
     ∙ outcome_then named new (value_of scope at e) (value_tree c.in_ok-_vertex._vertex) (λ v. sure no_step) c.in_ok-_vertex.ensures
     ∙ ap (λ s. (s, new)) (sym c.wrong-step.ensures.step)))
