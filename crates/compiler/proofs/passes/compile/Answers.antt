@@ -18,9 +18,9 @@ pub returns : goal.returns
 returns c =
     let p = program_tree c.in_ok-program.program in
     let s = c.in_ok-schedule.schedule in
-    let plan = c.in_ok-plan.plan in
+    let plan = c.in_ok-lower.field-0 in
     let source = source_tree c.in_ok-source.source in
     let length = c.in_ok-source.source.length in
     let typed : IsTyped c.args.text.now p = is_typed c.args.text.now source length p c.in_ok-source.ensures.length c.in_ok-source.ensures.answers c.in_ok-program.ensures in
-    planned c.args.text.now plan p s c.in_ok-plan.ensures.program typed c.in_ok-schedule.ensures
-    c.in_ok-plan.ensures.plan c.in_ok-plan.ensures.text (applies_reduce source length p s c.in_ok-program.ensures)
+    planned c.args.text.now plan p s c.in_ok-lower.ensures.program typed c.in_ok-schedule.ensures
+    c.in_ok-lower.ensures.plan c.in_ok-lower.ensures.text (applies_reduce source length p s c.in_ok-program.ensures)
