@@ -85,7 +85,7 @@ impl<'a> FormerRun<'a> {
         })
     }
 
-    /// The same with vectors that may be any.
+    /// Gives this run back with no candidates: from then on the vectors of the two runs may differ anywhere.
     pub(crate) fn with_any_vectors(mut self) -> FormerRun<'a>
         ensures beside { (f : FunctionKernels) (g : Digraph) → IsBeside f g self.entry → IsBeside f g result }
         ensures candidates { result.candidates ≡ None }

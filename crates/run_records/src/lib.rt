@@ -22,6 +22,7 @@ mod differences;
 mod ends;
 mod follower;
 mod former_run;
+mod recorded_run;
 mod recording;
 mod rows;
 mod run_record;
@@ -30,5 +31,6 @@ mod tests;
 
 pub use apply_record::ApplyRecord;
 pub use follower::Follower;
+pub use recorded_run::{RecordedRun, run_after, run_recorded};
 pub use recording::room_of_record;
 pub use run_record::RunRecord;
