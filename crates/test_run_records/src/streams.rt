@@ -41,10 +41,10 @@ fn random_batch(
     alloc: Global,
     random: &mut Random,
     vertices: u32,
-    most: u64,
+    most: u32,
 ) -> Result<Batch, GraphError> {
     let mut batch = Batch::new(alloc);
-    for _ in 0..random.below(most + 1) {
+    for _ in 0..random.below(u64::from(most) + 1) {
         batch.push(random_entry(random, vertices))?;
     }
     Ok(batch)
