@@ -84,7 +84,7 @@ fn check_stream(alloc: Global, plan: &Arc<Plan>, seed: u64) -> Result<Checked, F
     let first = random_batch(alloc, &mut random, VERTICES, 120)?;
     let mut graph = Graph::new(VERTICES, 64)?.apply(alloc, &first)?;
     let mut record = None;
-    for _ in 0..3 + random.below(23) {
+    'edits: for _ in 0..3 + random.below(23) {
         let batch = random_batch(alloc, &mut random, graph.vertices(), 3)?;
         let turns = TURNS[random.below(4) as usize];
         let (after, run) = run_beside(alloc, plan, &record, &graph, &batch, turns)?;
