@@ -54,21 +54,21 @@ fn random_batch(
 fn run_beside(
     alloc: Global,
     plan: &Arc<Plan>,
-    record: &Option<RunRecord>,
+    former: &Option<RunRecord>,
     before: &Graph,
     batch: &Batch,
     turns: u64,
 ) -> Result<(Graph, RecordedRun), Fail>
-    requires { IfSome record.now (λ r. arc_value r.graph ≡ before.now) }
+    requires { IfSome former.now (λ r. arc_value r.graph ≡ before.now) }
     ensures { IfOk result (λ r. IfSome r.1.run_record (λ made. arc_value made.graph ≡ r.0)) }
 {
     let after = before.apply(alloc, batch)?;
     let flat = Arc::new(alloc, Flat::of(alloc, &after)?)?;
     let by = SerialApplier::new(alloc);
-    match record {
-        Some(record) if after.vertices() == before.vertices() => {
+    match former {
+        Some(former) if after.vertices() == before.vertices() => {
             let edges = named_edges(alloc, &[batch.clone()?])?;
-            let run = run_after(alloc, record, flat, &edges, turns, by)?;
+            let run = run_after(alloc, former, flat, &edges, turns, by)?;
             Ok((after, run))
         }
         _ => {
@@ -83,11 +83,11 @@ fn check_stream(alloc: Global, plan: &Arc<Plan>, seed: u64) -> Result<Checked, F
     let mut random = Random::new(seed);
     let first = random_batch(alloc, &mut random, VERTICES, 120)?;
     let mut graph = Graph::new(VERTICES, 64)?.apply(alloc, &first)?;
-    let mut record = None;
+    let mut former = None;
     'edits: for _ in 0..3 + random.below(23) {
         let batch = random_batch(alloc, &mut random, graph.vertices(), 3)?;
         let turns = TURNS[random.below(4) as usize];
-        let (after, run) = run_beside(alloc, plan, &record, &graph, &batch, turns)?;
+        let (after, run) = run_beside(alloc, plan, &former, &graph, &batch, turns)?;
         let flat = Flat::of(alloc, &after)?;
         let from_nothing = run_alone(alloc, plan, &flat, turns)?;
         let RecordedRun {
@@ -98,7 +98,7 @@ fn check_stream(alloc: Global, plan: &Arc<Plan>, seed: u64) -> Result<Checked, F
             return Ok(Err(fact));
         }
         graph = after;
-        record = run_record;
+        former = run_record;
     }
     Ok(Ok(()))
 }
