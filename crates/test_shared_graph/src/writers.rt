@@ -11,7 +11,7 @@ use tree_batch::Batch;
 
 // Those that read beside a writer, by their names.
 #[derive(Clone, Copy)]
-struct Programs {
+struct NamedPlans {
     plans: &'static [&'static str],
 }
 
@@ -22,7 +22,7 @@ fn counts_apart<J: Naming, T: Threads + Wait + Sync>(
     opening: Opening,
     vertices: u32,
     chunk_size: u32,
-    programs: Programs,
+    programs: NamedPlans,
 ) -> Result<(usize, u64), Fail>
     requires book { opening ≡ J.book }
     requires vertices { J.vertices ≡ vertices }
@@ -43,7 +43,7 @@ fn counts_apart<J: Naming, T: Threads + Wait + Sync>(
 
 #[test]
 fn a_writer_is_apart_from_its_readers(rt: HostRuntime) -> Result<(), Fail> {
-    let programs = Programs {
+    let programs = NamedPlans {
         plans: &["search", "labels"],
     };
     let (readers, made) = counts_apart::<Brand, HostRuntime>(
