@@ -1,5 +1,5 @@
 //! Blocks: typing of statements, one after the other, in `main` and in functions.
-ghost use Rattle.std.specs.Prelude.{◌≡◌, OnOk};
+ghost use Rattle.std.specs.Prelude.{OnOk};
 ghost use Rattle.syntax.specs.SourceTrees.{Assign, Declare, Reduce};
 ghost use Rattle.syntax.specs.SourceViews.{statement_kind_tree, for_loop_tree, initial_tree, parameter_tree, simple_action_tree, block_tree};
 ghost use Rattle.expression_types.specs.Faults.{ReportsFaults};
@@ -15,13 +15,12 @@ use crate::initial::{Initializer, read_initial};
 use crate::wanted::{condition, integer};
 use apply_options::Reduction;
 use expression_types::{Fault, entity, type_expression};
-use std::alloc::{AllocError, Global};
+use std::alloc::AllocError;
 use syntax::{Action, Expression, ForLoop, Initial, Name, Parameter, SimpleAction, Statement};
 
 /// Statements in order. What they declare stays visible after them.
 #[cycle(statements)]
 pub(crate) fn statements<K: BlockKind>(
-    alloc: Global,
     block: &[Statement],
     checker: &mut Checker,
     first_fault: &mut Option<Fault>,
@@ -30,9 +29,9 @@ pub(crate) fn statements<K: BlockKind>(
         (block_typed K.meaning (checker_of checker.old) (block_tree block.now)) }
     ensures kept { OnOk result (KeepsNames checker.old.scope checker.new.scope) }
 {
-    let mut typed = Vec::new(alloc);
+    let mut typed = Vec::new(checker.alloc);
     'statements: for statement in block {
-        let next = one::<K>(alloc, statement, checker, first_fault)?;
+        let next = one::<K>(statement, checker, first_fault)?;
         typed.push(next)?;
     }
     Ok(typed)
@@ -41,7 +40,6 @@ pub(crate) fn statements<K: BlockKind>(
 /// One statement, with its number and its label.
 #[cycle(statements)]
 fn one<K: BlockKind>(
-    alloc: Global,
     statement: &Statement,
     checker: &mut Checker,
     first_fault: &mut Option<Fault>,
@@ -50,16 +48,15 @@ fn one<K: BlockKind>(
         (statement_typed K.meaning (checker_of checker.old) statement.now.label (statement_kind_tree statement.now.action)) }
     ensures kept { OnOk result (KeepsNames checker.old.scope checker.new.scope) }
 {
-    let label = label(alloc, checker, &statement.label, first_fault)?;
+    let label = label(checker, &statement.label, first_fault)?;
     let number = K::number(checker, label)?;
-    let action = action::<K>(alloc, &statement.action, checker, first_fault)?;
+    let action = action::<K>(&statement.action, checker, first_fault)?;
     Ok(K::labelled(number, label, action))
 }
 
 /// A block of its own, after which the names that it declares are forgotten.
 #[cycle(statements)]
 fn inner<K: BlockKind>(
-    alloc: Global,
     block: &[Statement],
     checker: &mut Checker,
     first_fault: &mut Option<Fault>,
@@ -69,7 +66,7 @@ fn inner<K: BlockKind>(
     ensures kept { OnOk result (KeepsNames checker.old.scope checker.new.scope) }
 {
     let mark = checker.scope.mark();
-    let typed = statements::<K>(alloc, block, checker, first_fault)?;
+    let typed = statements::<K>(block, checker, first_fault)?;
     checker.scope.leave(mark);
     Ok(typed)
 }
@@ -77,7 +74,6 @@ fn inner<K: BlockKind>(
 /// What a statement does.
 #[cycle(statements)]
 fn action<K: BlockKind>(
-    alloc: Global,
     action: &Action,
     checker: &mut Checker,
     first_fault: &mut Option<Fault>,
@@ -87,17 +83,17 @@ fn action<K: BlockKind>(
     ensures kept { OnOk result (KeepsNames checker.old.scope checker.new.scope) }
 {
     match action {
-        Action::Simple(action) => without_block::<K>(alloc, action, checker, first_fault),
+        Action::Simple(action) => without_block::<K>(action, checker, first_fault),
         Action::While { at, test, body } => {
             K::note_loop(*at, first_fault);
-            let test = condition(alloc, &checker.scope, *at, test, first_fault)?;
-            let body = inner::<K>(alloc, body, checker, first_fault)?;
-            Ok(K::with_blocks(alloc, Compound::While(test, body)))
+            let test = condition(checker.alloc, &checker.scope, *at, test, first_fault)?;
+            let body = inner::<K>(body, checker, first_fault)?;
+            Ok(K::with_blocks(checker.alloc, Compound::While(test, body)))
         }
         Action::If { at, test, body } => {
-            let test = condition(alloc, &checker.scope, *at, test, first_fault)?;
-            let body = inner::<K>(alloc, body, checker, first_fault)?;
-            Ok(K::with_blocks(alloc, Compound::If(test, body)))
+            let test = condition(checker.alloc, &checker.scope, *at, test, first_fault)?;
+            let body = inner::<K>(body, checker, first_fault)?;
+            Ok(K::with_blocks(checker.alloc, Compound::If(test, body)))
         }
         Action::IfElse {
             at,
@@ -105,19 +101,18 @@ fn action<K: BlockKind>(
             body,
             otherwise,
         } => {
-            let test = condition(alloc, &checker.scope, *at, test, first_fault)?;
-            let body = inner::<K>(alloc, body, checker, first_fault)?;
-            let other = inner::<K>(alloc, otherwise, checker, first_fault)?;
-            Ok(K::with_blocks(alloc, Compound::IfElse(test, body, other)))
+            let test = condition(checker.alloc, &checker.scope, *at, test, first_fault)?;
+            let body = inner::<K>(body, checker, first_fault)?;
+            let other = inner::<K>(otherwise, checker, first_fault)?;
+            Ok(K::with_blocks(checker.alloc, Compound::IfElse(test, body, other)))
         }
-        Action::For(for_loop) => repeat::<K>(alloc, for_loop, checker, first_fault),
+        Action::For(for_loop) => repeat::<K>(for_loop, checker, first_fault),
     }
 }
 
 /// A `for`, whose name is visible in its body.
 #[cycle(statements)]
 fn repeat<K: BlockKind>(
-    alloc: Global,
     for_loop: &ForLoop,
     checker: &mut Checker,
     first_fault: &mut Option<Fault>,
@@ -128,18 +123,29 @@ fn repeat<K: BlockKind>(
 {
     let at = for_loop.at;
     K::note_loop(at, first_fault);
-    let first = integer(alloc, &checker.scope, at, &for_loop.first, first_fault)?;
-    let limit = integer(alloc, &checker.scope, at, &for_loop.limit, first_fault)?;
+    let first = integer(
+        checker.alloc,
+        &checker.scope,
+        at,
+        &for_loop.first,
+        first_fault,
+    )?;
+    let limit = integer(
+        checker.alloc,
+        &checker.scope,
+        at,
+        &for_loop.limit,
+        first_fault,
+    )?;
     let mark = checker.scope.mark();
-    let slot = declare_loop_variable(alloc, checker, &for_loop.name, first_fault)?;
-    let body = statements::<K>(alloc, &for_loop.body, checker, first_fault)?;
+    let slot = declare_loop_variable(checker, &for_loop.name, first_fault)?;
+    let body = statements::<K>(&for_loop.body, checker, first_fault)?;
     checker.scope.leave(mark);
-    Ok(K::with_blocks(alloc, Compound::For(slot.name, first, limit, body)))
+    Ok(K::with_blocks(checker.alloc, Compound::For(slot.name, first, limit, body)))
 }
 
 /// What a statement without a block does.
 fn without_block<K: BlockKind>(
-    alloc: Global,
     action: &SimpleAction,
     checker: &mut Checker,
     first_fault: &mut Option<Fault>,
@@ -153,27 +159,21 @@ fn without_block<K: BlockKind>(
             at,
             variable,
             initial,
-        } => declare_variable::<K>(alloc, checker, *at, variable, initial, first_fault),
-        SimpleAction::Print { at, value } => K::print(alloc, checker, *at, value, first_fault),
-        SimpleAction::Assign { name, value } => assign::<K>(
-            alloc,
-            checker,
-            name,
-            value,
-            first_fault,
-        ),
+        } => declare_variable::<K>(checker, *at, variable, initial, first_fault),
+        SimpleAction::Print { at, value } => K::print(checker, *at, value, first_fault),
+        SimpleAction::Assign { name, value } => assign::<K>(checker, name, value, first_fault),
         SimpleAction::Reduce {
             name,
             reduction,
             value,
-        } => reduce::<K>(alloc, checker, name, *reduction, value, first_fault),
+        } => reduce::<K>(checker, name, *reduction, value, first_fault),
         SimpleAction::SetEntry {
             vector,
             index,
             value,
         } => {
             let written = WrittenEntry { vector, index };
-            K::set_entry(alloc, checker, written, value, first_fault)
+            K::set_entry(checker, written, value, first_fault)
         }
         SimpleAction::ReduceEntry {
             vector,
@@ -182,22 +182,21 @@ fn without_block<K: BlockKind>(
             value,
         } => {
             let written = WrittenEntry { vector, index };
-            K::reduce_entry(alloc, checker, written, *reduction, value, first_fault)
+            K::reduce_entry(checker, written, *reduction, value, first_fault)
         }
         SimpleAction::AddVertex { set, vertex } => {
-            K::add_vertex(alloc, checker, set, vertex, first_fault)
+            K::add_vertex(checker, set, vertex, first_fault)
         }
         SimpleAction::Apply {
             target,
             ends,
             function,
-        } => Ok(K::apply(alloc, checker, target, ends, function, first_fault)),
+        } => Ok(K::apply(checker, target, ends, function, first_fault)),
     }
 }
 
 /// A declaration of a variable. The name is not visible in its first value.
 fn declare_variable<K: BlockKind>(
-    alloc: Global,
     checker: &mut Checker,
     at: usize,
     variable: &Parameter,
@@ -208,12 +207,11 @@ fn declare_variable<K: BlockKind>(
         (K.meaning.action_typed (checker_of checker.old) (Declare at (parameter_tree variable.now) (initial_tree initial.now))) }
     ensures kept { OnOk result (KeepsNames checker.old.scope checker.new.scope) }
 {
-    let initializer = read_initial(alloc, checker, at, initial, first_fault)?;
-    declare_initialized::<K>(alloc, checker, at, variable, initializer, first_fault)
+    let initializer = read_initial(checker, at, initial, first_fault)?;
+    declare_initialized::<K>(checker, at, variable, initializer, first_fault)
 }
 
 fn declare_initialized<K: BlockKind>(
-    alloc: Global,
     checker: &mut Checker,
     at: usize,
     variable: &Parameter,
@@ -224,21 +222,13 @@ fn declare_initialized<K: BlockKind>(
         (declared_from K.meaning (checker_of checker.old) at (parameter_tree variable.now) (initializer_tree initializer)) }
     ensures kept { OnOk result (KeepsNames checker.old.scope checker.new.scope) }
 {
-    let (entity, action) = K::variable(
-        alloc,
-        checker,
-        at,
-        variable.declared,
-        initializer,
-        first_fault,
-    );
-    declare(alloc, checker, &variable.name, entity, first_fault)?;
+    let (entity, action) = K::variable(checker, at, variable.declared, initializer, first_fault);
+    declare(checker, &variable.name, entity, first_fault)?;
     Ok(action)
 }
 
 /// An assignment to a variable, or to a filter's result.
 fn assign<K: BlockKind>(
-    alloc: Global,
     checker: &Checker,
     name: &Name,
     initial: &Initial,
@@ -249,13 +239,12 @@ fn assign<K: BlockKind>(
 {
     let at = name.at();
     let entity = entity(&checker.scope, name, first_fault);
-    let initializer = read_initial(alloc, checker, at, initial, first_fault)?;
-    Ok(K::assignment(alloc, at, initializer, entity, first_fault))
+    let initializer = read_initial(checker, at, initial, first_fault)?;
+    Ok(K::assignment(checker.alloc, at, initializer, entity, first_fault))
 }
 
 /// A reduction of a variable.
 fn reduce<K: BlockKind>(
-    alloc: Global,
     checker: &Checker,
     name: &Name,
     by: Reduction,
@@ -267,6 +256,6 @@ fn reduce<K: BlockKind>(
 {
     let at = name.at();
     let entity = entity(&checker.scope, name, first_fault);
-    let value = type_expression(alloc, &checker.scope, at, value, first_fault)?;
-    Ok(K::reduction(alloc, at, by, value, entity, first_fault))
+    let value = type_expression(checker.alloc, &checker.scope, at, value, first_fault)?;
+    Ok(K::reduction(checker.alloc, at, by, value, entity, first_fault))
 }

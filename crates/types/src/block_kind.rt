@@ -3,7 +3,6 @@ ghost use Rattle.std.specs.Prelude.{◌≡◌, IfOk, OnOk};
 ghost use Rattle.syntax.specs.SourceTrees.{AddVertex, Apply, Print, ReduceEntry, SetEntry};
 ghost use Rattle.syntax.specs.SourceViews.{ends_tree};
 ghost use Rattle.expression_types.specs.Faults.{ReportsFaults, least_of, outcome};
-ghost use Rattle.expression_types.specs.ScopeTree.{KeepsNames};
 ghost use Rattle.expression_types.specs.ValueTree.{value_tree};
 ghost use Rattle.types.specs.inside.BlockMeaning.{BlockMeaning, IsWalked, compound_tree};
 ghost use Rattle.types.specs.inside.Checker.{checker_of};
@@ -64,7 +63,6 @@ pub(crate) trait BlockKind {
 
     /// What a variable of this type is, and the statement that declares it.
     fn variable(
-        alloc: Global,
         checker: &Checker,
         at: usize,
         declared: DeclaredType,
@@ -97,7 +95,6 @@ pub(crate) trait BlockKind {
 
     /// A value that is printed.
     fn print(
-        alloc: Global,
         checker: &Checker,
         at: usize,
         value: &Expression,
@@ -108,7 +105,6 @@ pub(crate) trait BlockKind {
 
     /// An assignment to an entry of a vector.
     fn set_entry(
-        alloc: Global,
         checker: &Checker,
         written: WrittenEntry<'_>,
         value: &Expression,
@@ -119,7 +115,6 @@ pub(crate) trait BlockKind {
 
     /// A reduction of an entry of a vector.
     fn reduce_entry(
-        alloc: Global,
         checker: &mut Checker,
         written: WrittenEntry<'_>,
         by: Reduction,
@@ -132,7 +127,6 @@ pub(crate) trait BlockKind {
 
     /// A vertex that is added to a set.
     fn add_vertex(
-        alloc: Global,
         checker: &Checker,
         set: &Name,
         vertex: &Expression,
@@ -143,7 +137,6 @@ pub(crate) trait BlockKind {
 
     /// An apply of a function.
     fn apply(
-        alloc: Global,
         checker: &Checker,
         target: &Name,
         ends: &Ends,

@@ -15,6 +15,7 @@ use typed_tree::{Name as Text, Sequence, VarRef};
 
 /// What is visible at a point of the source, and what came before it.
 pub(crate) struct Checker {
+    pub(crate) alloc: Global,
     pub(crate) scope: Scope,
     /// All names that were declared.
     pub(crate) names: Vec<Text>,
@@ -33,6 +34,7 @@ pub(crate) struct Checker {
 impl Drop for Checker {
     fn drop(self) {
         let Checker {
+            alloc: _,
             scope: _,
             names: _,
             labels: _,
@@ -50,6 +52,7 @@ impl Checker {
         ensures { (result.0.items ≡ (checker_of self).names) × (result.1.items ≡ (checker_of self).label_names) }
     {
         let Checker {
+            alloc: _,
             scope: _,
             names,
             labels: _,
@@ -94,7 +97,6 @@ impl Checker {
 
 /// Makes a name visible, where it is not, and puts it into the table of names.
 pub(crate) fn declare(
-    alloc: Global,
     checker: &mut Checker,
     name: &Name,
     entity: Entity,
@@ -104,15 +106,16 @@ pub(crate) fn declare(
         (declared_in (checker_of checker.old) name.now entity) }
     ensures kept { OnOk result (KeepsNames checker.old.scope checker.new.scope) }
 {
-    checker.scope.declare(alloc, name, entity, first_fault)?;
-    let copy = Sequence::new(Vec::from_slice(alloc, name.bytes())?);
+    checker
+        .scope
+        .declare(checker.alloc, name, entity, first_fault)?;
+    let copy = Sequence::new(Vec::from_slice(checker.alloc, name.bytes())?);
     checker.names.push(copy)?;
     Ok(())
 }
 
 /// Declares the variable of a `for`, which is the next integer, and answers its slot.
 pub(crate) fn declare_loop_variable(
-    alloc: Global,
     checker: &mut Checker,
     name: &Name,
     first_fault: &mut Option<Fault>,
@@ -123,19 +126,12 @@ pub(crate) fn declare_loop_variable(
     ensures kept { OnOk result (KeepsNames checker.old.scope checker.new.scope) }
 {
     let slot = checker.integer_slot();
-    declare(
-        alloc,
-        checker,
-        name,
-        Entity::LoopVariable(slot),
-        first_fault,
-    )?;
+    declare(checker, name, Entity::LoopVariable(slot), first_fault)?;
     Ok(slot)
 }
 
 /// The index of a label among all, where a statement has one.
 pub(crate) fn label(
-    alloc: Global,
     checker: &mut Checker,
     label: &Option<Name>,
     first_fault: &mut Option<Fault>,
@@ -152,8 +148,8 @@ pub(crate) fn label(
         return Ok(Some(index));
     }
     let index = checker.labels.len();
-    let name = between_ends(alloc, label.bytes())?;
-    checker.labels.push(alloc, label.bytes(), index)?;
+    let name = between_ends(checker.alloc, label.bytes())?;
+    checker.labels.push(checker.alloc, label.bytes(), index)?;
     checker.label_names.push(name)?;
     Ok(Some(index))
 }

@@ -24,7 +24,7 @@ use crate::literal::{condition_literal, integer_literal};
 use crate::reductions::Reductions;
 use crate::statement::MainBlock;
 use expression_types::{Entity, Fault, Inside, TypeRule, note};
-use std::alloc::{AllocError, Global};
+use std::alloc::AllocError;
 use syntax::{Declaration, DeclaredType, Initial, Name, Parameter, Statement};
 use typed_tree::{
     Endpoint, Function, FunctionStatement, InitialValue, MainStatement, ScheduleCall, Typed,
@@ -122,7 +122,6 @@ struct WrittenFunction<'a> {
 
 /// All declarations, in the order of the text.
 pub(crate) fn declare_all(
-    alloc: Global,
     declarations: &[Declaration],
     declared: &mut Declared,
     first_fault: &mut Option<Fault>,
@@ -131,13 +130,12 @@ pub(crate) fn declare_all(
         (declarations_typed (declared_of declared.old) (map declaration_tree declarations.now)) }
 {
     'declarations: for declaration in declarations {
-        declare_one(alloc, declaration, declared, first_fault)?;
+        declare_one(declaration, declared, first_fault)?;
     }
     Ok(())
 }
 
 fn declare_one(
-    alloc: Global,
     declaration: &Declaration,
     declared: &mut Declared,
     first_fault: &mut Option<Fault>,
@@ -156,7 +154,7 @@ fn declare_one(
                 constant,
                 initial,
             };
-            constant_of(alloc, written, declared, first_fault)
+            constant_of(written, declared, first_fault)
         }
         Declaration::Function {
             at,
@@ -173,10 +171,8 @@ fn declare_one(
                 body,
             };
             match kind_of(name.bytes(), parameters, gives) {
-                FunctionKind::Main(fits) => {
-                    main_function(alloc, fits, written, declared, first_fault)
-                }
-                other => function(alloc, other, written, declared, first_fault),
+                FunctionKind::Main(fits) => { main_function(fits, written, declared, first_fault) }
+                other => function(other, written, declared, first_fault),
             }
         }
     }
@@ -184,7 +180,6 @@ fn declare_one(
 
 /// Makes a name visible, and puts it into the table of names.
 fn name_is(
-    alloc: Global,
     name: &Name,
     entity: Entity,
     declared: &mut Declared,
@@ -192,11 +187,10 @@ fn name_is(
 ) -> Result<(), AllocError>
     ensures { ReportsFaults (λ _. declared_of declared.new) first_fault.old first_fault.new result (declare_name (declared_of declared.old) name.now entity) }
 {
-    declare(alloc, &mut declared.checker, name, entity, first_fault)
+    declare(&mut declared.checker, name, entity, first_fault)
 }
 
 fn constant_of(
-    alloc: Global,
     written: WrittenConstant<'_>,
     declared: &mut Declared,
     first_fault: &mut Option<Fault>,
@@ -204,18 +198,11 @@ fn constant_of(
     ensures { ReportsFaults (λ _. declared_of declared.new) first_fault.old first_fault.new result
         (declare_constant (declared_of declared.old) written.entry.at (parameter_tree written.entry.constant.now) (initial_tree written.entry.initial.now)) }
 {
-    let initializer = read_initial(
-        alloc,
-        &declared.checker,
-        written.at,
-        written.initial,
-        first_fault,
-    )?;
-    constant_from(alloc, written, initializer, declared, first_fault)
+    let initializer = read_initial(&declared.checker, written.at, written.initial, first_fault)?;
+    constant_from(written, initializer, declared, first_fault)
 }
 
 fn constant_from(
-    alloc: Global,
     written: WrittenConstant<'_>,
     initializer: Initializer,
     declared: &mut Declared,
@@ -226,29 +213,16 @@ fn constant_from(
         written.entry.constant.now.declared (initializer_tree initializer)) }
 {
     match written.constant.declared {
-        DeclaredType::Int => integer(alloc, written, initializer, declared, first_fault),
-        DeclaredType::Bool => condition(alloc, written, initializer, declared, first_fault),
+        DeclaredType::Int => integer(written, initializer, declared, first_fault),
+        DeclaredType::Bool => condition(written, initializer, declared, first_fault),
         DeclaredType::Vertex => {
             note(first_fault, written.at, TypeRule::WrongType);
-            name_is(
-                alloc,
-                &written.constant.name,
-                Entity::Error,
-                declared,
-                first_fault,
-            )
+            name_is(&written.constant.name, Entity::Error, declared, first_fault)
         }
-        DeclaredType::VertexSet => set(alloc, written, initializer, declared, first_fault),
-        DeclaredType::Vector => vector(alloc, written, initializer, declared, first_fault),
-        DeclaredType::EdgeSet => edges(alloc, written, false, initializer, declared, first_fault),
-        DeclaredType::WeightedEdgeSet => edges(
-            alloc,
-            written,
-            true,
-            initializer,
-            declared,
-            first_fault,
-        ),
+        DeclaredType::VertexSet => set(written, initializer, declared, first_fault),
+        DeclaredType::Vector => vector(written, initializer, declared, first_fault),
+        DeclaredType::EdgeSet => edges(written, false, initializer, declared, first_fault),
+        DeclaredType::WeightedEdgeSet => edges(written, true, initializer, declared, first_fault),
     }
 }
 
@@ -263,7 +237,6 @@ fn note_unless_error(at: usize, initializer: &Initializer, first_fault: &mut Opt
 }
 
 fn integer(
-    alloc: Global,
     written: WrittenConstant<'_>,
     initializer: Initializer,
     declared: &mut Declared,
@@ -276,7 +249,6 @@ fn integer(
     let value = literal(written.at, initializer, written.initial, first_fault);
     let index = declared.checker.names.len();
     name_is(
-        alloc,
         &written.constant.name,
         Entity::IntConstant(index, value),
         declared,
@@ -304,7 +276,6 @@ fn literal(
 }
 
 fn condition(
-    alloc: Global,
     written: WrittenConstant<'_>,
     initializer: Initializer,
     declared: &mut Declared,
@@ -317,7 +288,6 @@ fn condition(
     let value = truth_literal(written.at, initializer, written.initial, first_fault);
     let index = declared.checker.names.len();
     name_is(
-        alloc,
         &written.constant.name,
         Entity::BoolConstant(index, value),
         declared,
@@ -345,7 +315,6 @@ fn truth_literal(
 }
 
 fn set(
-    alloc: Global,
     written: WrittenConstant<'_>,
     initializer: Initializer,
     declared: &mut Declared,
@@ -360,7 +329,6 @@ fn set(
         name: declared.checker.names.len(),
     };
     name_is(
-        alloc,
         &written.constant.name,
         Entity::ConstantSet(slot),
         declared,
@@ -380,7 +348,6 @@ fn want_all(at: usize, initializer: Initializer, first_fault: &mut Option<Fault>
 }
 
 fn vector(
-    alloc: Global,
     written: WrittenConstant<'_>,
     initializer: Initializer,
     declared: &mut Declared,
@@ -393,7 +360,7 @@ fn vector(
     let beginning = beginning_of(written.at, initializer, written.initial, first_fault);
     let index = declared.checker.names.len();
     let entity = Entity::Vector(declared.vectors.len());
-    name_is(alloc, &written.constant.name, entity, declared, first_fault)?;
+    name_is(&written.constant.name, entity, declared, first_fault)?;
     declared.vectors.push(Vector {
         name: index,
         beginning,
@@ -417,7 +384,6 @@ fn beginning_of(
 }
 
 fn edges(
-    alloc: Global,
     written: WrittenConstant<'_>,
     weights: bool,
     initializer: Initializer,
@@ -431,7 +397,7 @@ fn edges(
     let index = declared.checker.names.len();
     let name = &written.constant.name;
     let first = only(name, index, declared.edges, first_fault);
-    name_is(alloc, name, Entity::Edges(weights), declared, first_fault)?;
+    name_is(name, Entity::Edges(weights), declared, first_fault)?;
     declared.edges = first;
     Ok(())
 }
@@ -477,7 +443,6 @@ fn inside(kind: FunctionKind) -> Inside
 
 /// Goes into a function: its parameters and its result become visible.
 fn open(
-    alloc: Global,
     kind: FunctionKind,
     parameters: &[Parameter],
     gives: &Option<Parameter>,
@@ -489,9 +454,9 @@ fn open(
     ensures kept { OnOk result (KeepsNames checker.old.scope checker.new.scope) }
 {
     checker.scope.enter(inside(kind));
-    checker.writes = Reductions::new(alloc);
-    declare_parameters(alloc, takes_weight(kind), parameters, checker, first_fault)?;
-    declare_result(alloc, kind, gives, checker, first_fault)
+    checker.writes = Reductions::new(checker.alloc);
+    declare_parameters(takes_weight(kind), parameters, checker, first_fault)?;
+    declare_result(kind, gives, checker, first_fault)
 }
 
 /// Whether it is an edge function whose third parameter is the edge's weight.
@@ -506,7 +471,6 @@ fn takes_weight(kind: FunctionKind) -> bool
 }
 
 fn declare_parameters(
-    alloc: Global,
     weighted: bool,
     parameters: &[Parameter],
     checker: &mut Checker,
@@ -519,7 +483,7 @@ fn declare_parameters(
     let mut endpoint = Endpoint::Source;
     'parameters: for parameter in parameters {
         let entity = parameter_entity(weighted, endpoint, parameter.declared);
-        declare(alloc, checker, &parameter.name, entity, first_fault)?;
+        declare(checker, &parameter.name, entity, first_fault)?;
         endpoint = Endpoint::Destination;
     }
     Ok(())
@@ -538,7 +502,6 @@ fn parameter_entity(weighted: bool, endpoint: Endpoint, declared: DeclaredType) 
 }
 
 fn declare_result(
-    alloc: Global,
     kind: FunctionKind,
     gives: &Option<Parameter>,
     checker: &mut Checker,
@@ -552,7 +515,7 @@ fn declare_result(
         None => Ok(()),
         Some(gives) => {
             let entity = entity_of_result(checker, kind);
-            declare(alloc, checker, &gives.name, entity, first_fault)
+            declare(checker, &gives.name, entity, first_fault)
         }
     }
 }
@@ -571,7 +534,6 @@ fn entity_of_result(checker: &Checker, kind: FunctionKind) -> Entity
 
 /// The function that is run.
 fn main_function(
-    alloc: Global,
     fits: bool,
     written: WrittenFunction<'_>,
     declared: &mut Declared,
@@ -582,19 +544,18 @@ fn main_function(
         (option_map parameter_tree written.entry.gives.now) (source_block written.entry.body.now)) }
 {
     let checker = &mut declared.checker;
-    checker.statements = Vec::new(alloc);
+    checker.statements = Vec::new(checker.alloc);
     let mark = checker.scope.mark();
     open(
-        alloc,
         FunctionKind::Main(fits),
         written.parameters,
         written.gives,
         checker,
         first_fault,
     )?;
-    let body = statements::<MainBlock>(alloc, written.body, checker, first_fault)?;
+    let body = statements::<MainBlock>(written.body, checker, first_fault)?;
     checker.scope.leave(mark);
-    name_is(alloc, written.name, Entity::Main, declared, first_fault)?;
+    name_is(written.name, Entity::Main, declared, first_fault)?;
     keep_main(fits, body, declared);
     Ok(())
 }
@@ -610,7 +571,6 @@ fn keep_main(fits: bool, body: Vec<MainStatement>, declared: &mut Declared)
 
 /// A function of another kind, or of none.
 fn function(
-    alloc: Global,
     kind: FunctionKind,
     written: WrittenFunction<'_>,
     declared: &mut Declared,
@@ -624,16 +584,15 @@ fn function(
     let checker = &mut declared.checker;
     let mark = checker.scope.mark();
     open(
-        alloc,
         kind,
         written.parameters,
         written.gives,
         checker,
         first_fault,
     )?;
-    let steps = statements::<FunctionBlock>(alloc, written.body, checker, first_fault)?;
+    let steps = statements::<FunctionBlock>(written.body, checker, first_fault)?;
     checker.scope.leave(mark);
-    function_is(alloc, kind, written.name, steps, declared, first_fault)
+    function_is(kind, written.name, steps, declared, first_fault)
 }
 
 /// Notes the fault where a function is of no kind.
@@ -651,7 +610,6 @@ fn want_kind(at: usize, kind: FunctionKind, first_fault: &mut Option<Fault>)
 
 /// Makes a function visible after its statements.
 fn function_is(
-    alloc: Global,
     kind: FunctionKind,
     name: &Name,
     steps: Vec<FunctionStatement>,
@@ -667,7 +625,6 @@ fn function_is(
     };
     match kind {
         FunctionKind::Edge(weighted) => edge_function(
-            alloc,
             name,
             weighted,
             function,
@@ -676,18 +633,17 @@ fn function_is(
         ),
         FunctionKind::Vertex => {
             let entity = Entity::VertexFunction(declared.vertex_functions.len());
-            name_is(alloc, name, entity, declared, first_fault)?;
+            name_is(name, entity, declared, first_fault)?;
             declared.vertex_functions.push(function)?;
             Ok(())
         }
         FunctionKind::Filter => {
             let entity = Entity::Filter(declared.filters.len());
-            name_is(alloc, name, entity, declared, first_fault)?;
+            name_is(name, entity, declared, first_fault)?;
             declared.filters.push(function)?;
             Ok(())
         }
         FunctionKind::Main(_) | FunctionKind::Other => name_is(
-            alloc,
             name,
             Entity::Error,
             declared,
@@ -698,7 +654,6 @@ fn function_is(
 
 /// Makes an edge function visible, and keeps what it writes.
 fn edge_function(
-    alloc: Global,
     name: &Name,
     weighted: bool,
     function: Function,
@@ -709,9 +664,12 @@ fn edge_function(
         (edge_function_declared weighted (declared_of declared.old) name.now (function_tree function)) }
 {
     let entity = Entity::EdgeFunction(declared.edge_functions.len(), weighted);
-    name_is(alloc, name, entity, declared, first_fault)?;
+    name_is(name, entity, declared, first_fault)?;
     declared.edge_functions.push(function)?;
-    let writes = std::mem::replace(&mut declared.checker.writes, Reductions::new(alloc));
+    let writes = std::mem::replace(
+        &mut declared.checker.writes,
+        Reductions::new(declared.checker.alloc),
+    );
     declared.checker.written.push(writes)?;
     Ok(())
 }

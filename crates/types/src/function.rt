@@ -68,7 +68,6 @@ impl BlockKind for FunctionBlock {
     }
 
     fn variable(
-        alloc: Global,
         checker: &Checker,
         at: usize,
         declared: DeclaredType,
@@ -98,7 +97,10 @@ impl BlockKind for FunctionBlock {
             | DeclaredType::Vertex
             | DeclaredType::Vector
             | DeclaredType::EdgeSet
-            | DeclaredType::WeightedEdgeSet => (Entity::Error, wrong(at, alloc, first_fault)),
+            | DeclaredType::WeightedEdgeSet => (
+                Entity::Error,
+                wrong(at, checker.alloc, first_fault),
+            ),
         }
     }
 
@@ -142,18 +144,16 @@ impl BlockKind for FunctionBlock {
     }
 
     fn print(
-        alloc: Global,
-        _checker: &Checker,
+        checker: &Checker,
         at: usize,
         _value: &Expression,
         first_fault: &mut Option<Fault>,
     ) -> Result<FunctionStatement, AllocError> {
         note(first_fault, at, TypeRule::PrintOutsideMain);
-        Ok(nothing(alloc))
+        Ok(nothing(checker.alloc))
     }
 
     fn set_entry(
-        alloc: Global,
         checker: &Checker,
         written: WrittenEntry<'_>,
         value: &Expression,
@@ -163,14 +163,13 @@ impl BlockKind for FunctionBlock {
         let scope = &checker.scope;
         let may = may_set_entry(at, scope.inside(), first_fault);
         let vector = vector(scope, at, written.vector, first_fault);
-        let index = type_index(alloc, scope, at, written.index, first_fault)?;
+        let index = type_index(checker.alloc, scope, at, written.index, first_fault)?;
         let own = is_own(at, vertex_of(scope.inside()), index, first_fault);
-        let value = integer(alloc, scope, at, value, first_fault)?;
-        Ok(setting(alloc, may, own, vector, value))
+        let value = integer(checker.alloc, scope, at, value, first_fault)?;
+        Ok(setting(checker.alloc, may, own, vector, value))
     }
 
     fn reduce_entry(
-        alloc: Global,
         checker: &mut Checker,
         written: WrittenEntry<'_>,
         by: Reduction,
@@ -181,35 +180,39 @@ impl BlockKind for FunctionBlock {
         let vector = vector(&checker.scope, at, written.vector, first_fault);
         let inside = checker.scope.inside();
         let may = may_reduce_entry(at, inside, vector, by, &mut checker.writes, first_fault)?;
-        let index = type_index(alloc, &checker.scope, at, written.index, first_fault)?;
+        let index = type_index(
+            checker.alloc,
+            &checker.scope,
+            at,
+            written.index,
+            first_fault,
+        )?;
         let own = is_own(at, vertex_of(inside), index, first_fault);
-        let value = integer(alloc, &checker.scope, at, value, first_fault)?;
-        Ok(reducing(alloc, may, own, vector, by, value))
+        let value = integer(checker.alloc, &checker.scope, at, value, first_fault)?;
+        Ok(reducing(checker.alloc, may, own, vector, by, value))
     }
 
     fn add_vertex(
-        alloc: Global,
         checker: &Checker,
         set: &Name,
         vertex: &Expression,
         first_fault: &mut Option<Fault>,
     ) -> Result<FunctionStatement, AllocError> {
         let at = set.at();
-        let step = wrong(at, alloc, first_fault);
+        let step = wrong(at, checker.alloc, first_fault);
         let _set = entity(&checker.scope, set, first_fault);
-        let _vertex = type_expression(alloc, &checker.scope, at, vertex, first_fault)?;
+        let _vertex = type_expression(checker.alloc, &checker.scope, at, vertex, first_fault)?;
         Ok(step)
     }
 
     fn apply(
-        alloc: Global,
         checker: &Checker,
         target: &Name,
         ends: &Ends,
         function: &Name,
         first_fault: &mut Option<Fault>,
     ) -> FunctionStatement {
-        let step = wrong(target.at(), alloc, first_fault);
+        let step = wrong(target.at(), checker.alloc, first_fault);
         let _apply = read_apply(&checker.scope, target, ends, function, first_fault);
         step
     }

@@ -14,7 +14,7 @@ use crate::wanted::{condition_of, integer_of, members_of};
 use expression_types::{
     Entity, Fault, Scope, TypeRule, Value, entity, note, set_named, type_expression, vector_named,
 };
-use std::alloc::{AllocError, Global};
+use std::alloc::AllocError;
 use syntax::{Ends as WrittenEnds, Initial, Name};
 use typed_tree::{ApplyEnds, BoolExpression, IntExpression, SetValue, VertexFilter};
 
@@ -325,7 +325,6 @@ fn wrong(at: usize, first_fault: &mut Option<Fault>) -> Initializer
 
 /// What a value is that is in the statement or declaration whose first token is at this offset.
 pub(crate) fn read_initial(
-    alloc: Global,
     checker: &Checker,
     at: usize,
     initial: &Initial,
@@ -361,7 +360,7 @@ pub(crate) fn read_initial(
             Ok(modified(checker, at, apply, vector, first_fault))
         }
         Initial::Value(expression) => {
-            let value = type_expression(alloc, scope, at, expression, first_fault)?;
+            let value = type_expression(checker.alloc, scope, at, expression, first_fault)?;
             Ok(Initializer::Typed(value))
         }
     }

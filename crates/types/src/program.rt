@@ -43,15 +43,14 @@ fn type_source(
     ensures { ReportsFaults program_tree first_fault.old first_fault.new result (program_of (source_tree source.now) source.now.length) }
 {
     let mut declared = empty(alloc, count_sets(&source.declarations));
-    declare_all(alloc, &source.declarations, &mut declared, first_fault)?;
+    declare_all(&source.declarations, &mut declared, first_fault)?;
     let schedule = calls(alloc, &source.schedule)?;
-    let main = main_in(alloc, source.length, &mut declared, first_fault);
+    let main = main_in(source.length, &mut declared, first_fault);
     Ok(declared.into_program(main, schedule))
 }
 
 /// The statements of `main`. The fault is noted where there is none.
 fn main_in(
-    alloc: Global,
     length: usize,
     declared: &mut Declared,
     first_fault: &mut Option<Fault>,
@@ -63,7 +62,7 @@ fn main_in(
         Some(main) => main,
         None => {
             note(first_fault, length, TypeRule::NoMain);
-            Vec::new(alloc)
+            Vec::new(declared.checker.alloc)
         }
     }
 }
@@ -101,6 +100,7 @@ fn empty(alloc: Global, sets: usize) -> Declared
 {
     Declared {
         checker: Checker {
+            alloc,
             scope: Scope::new(alloc, sets),
             names: Vec::new(alloc),
             labels: Names::new(alloc),

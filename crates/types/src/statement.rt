@@ -76,7 +76,6 @@ impl BlockKind for MainBlock {
     }
 
     fn variable(
-        _alloc: Global,
         checker: &Checker,
         at: usize,
         declared: DeclaredType,
@@ -153,18 +152,16 @@ impl BlockKind for MainBlock {
     }
 
     fn print(
-        alloc: Global,
         checker: &Checker,
         at: usize,
         value: &Expression,
         first_fault: &mut Option<Fault>,
     ) -> Result<StatementKind, AllocError> {
-        let value = type_expression(alloc, &checker.scope, at, value, first_fault)?;
+        let value = type_expression(checker.alloc, &checker.scope, at, value, first_fault)?;
         Ok(print_value(at, value, first_fault))
     }
 
     fn set_entry(
-        alloc: Global,
         checker: &Checker,
         written: WrittenEntry<'_>,
         value: &Expression,
@@ -173,14 +170,13 @@ impl BlockKind for MainBlock {
         let at = written.vector.at();
         let scope = &checker.scope;
         let vector = vector(scope, at, written.vector, first_fault);
-        let index = type_expression(alloc, scope, at, written.index, first_fault)?;
+        let index = type_expression(checker.alloc, scope, at, written.index, first_fault)?;
         let index = index_of(at, index, first_fault);
-        let value = integer(alloc, scope, at, value, first_fault)?;
+        let value = integer(checker.alloc, scope, at, value, first_fault)?;
         Ok(setting(vector, index, value))
     }
 
     fn reduce_entry(
-        alloc: Global,
         checker: &mut Checker,
         written: WrittenEntry<'_>,
         by: Reduction,
@@ -190,14 +186,13 @@ impl BlockKind for MainBlock {
         let at = written.vector.at();
         let scope = &checker.scope;
         let vector = vector(scope, at, written.vector, first_fault);
-        let index = type_expression(alloc, scope, at, written.index, first_fault)?;
+        let index = type_expression(checker.alloc, scope, at, written.index, first_fault)?;
         let index = index_of(at, index, first_fault);
-        let value = integer(alloc, scope, at, value, first_fault)?;
+        let value = integer(checker.alloc, scope, at, value, first_fault)?;
         Ok(reducing(vector, index, by, value))
     }
 
     fn add_vertex(
-        alloc: Global,
         checker: &Checker,
         set: &Name,
         vertex: &Expression,
@@ -205,12 +200,11 @@ impl BlockKind for MainBlock {
     ) -> Result<StatementKind, AllocError> {
         let at = set.at();
         let entity = entity(&checker.scope, set, first_fault);
-        let value = type_expression(alloc, &checker.scope, at, vertex, first_fault)?;
+        let value = type_expression(checker.alloc, &checker.scope, at, vertex, first_fault)?;
         Ok(add_value(at, value, entity, first_fault))
     }
 
     fn apply(
-        _alloc: Global,
         checker: &Checker,
         target: &Name,
         ends: &Ends,
