@@ -46,4 +46,5 @@ pub use edge_applier::{ApplyEngine, EdgeApplier, ParallelApplier, SerialApplier}
 pub use edge_maps::{EdgeMap, apply_of, edge_map};
 pub use job::{Job, Stand};
 pub use run_error::RunError;
+pub use traverse::traverse;
 pub use whole_run::{run, run_alone, run_by, run_by_workers};
