@@ -1,5 +1,5 @@
 -- Records after one was put or taken away.
-use Rattle.std.proofs.Common.{◌≡◌, ◌⊎◌, ◌∙◌, ℕ, nat_eq, Bor, Option, Some, None, IfSome, refl, sym, ap, subst, inl, inr}
+use Rattle.std.proofs.Common.{◌≡◌, ◌⊎◌, ◌∙◌, ℕ, nat_eq, Bor, Option, Some, None, IfSome, sym, ap, inl, inr}
 use Rattle.std.proofs.lemmas.Option.{same_Some}
 use Rattle.std.specs.HashMap.{get}
 use Rattle.version_records.specs.declared.version_records.VersionRecord.{VersionRecord}

@@ -1,12 +1,12 @@
 -- Records of runs, and the states of the versions.
-use Rattle.std.proofs.Common.{◌≡◌, ◌⊎◌, ℕ, ◌≤◌, ◌∙◌, refl, Option, Some, None, IfSome, arith, inl, inr, sym, subst}
+use Rattle.std.proofs.Common.{◌≡◌, ℕ, ◌≤◌, ◌∙◌, refl, Option, Some, None, IfSome, arith, inl, inr, sym, subst}
 use Rattle.tree_batch.specs.Digraph.{Digraph}
 use Rattle.edge_differences.specs.Listed.{AreSameBut}
 use Rattle.version_list.specs.Machine.{State, newest_number, version_graph}
 use Rattle.version_flats.specs.VersionFlats.{IsKept}
 use Rattle.version_records.specs.declared.version_records.Predecessor.{Predecessor}
 use Rattle.version_records.specs.declared.version_records.VersionRecords.{VersionRecords}
-use Rattle.version_records.specs.VersionRecords.{AreRecordsOf, AreVersionsOf, HasRecord, HaveNone, IsOfFormer, IsPredecessor, MayKeep, MayLose}
+use Rattle.version_records.specs.VersionRecords.{AreRecordsOf, AreVersionsOf, HaveNone, IsOfFormer, IsPredecessor, MayKeep, MayLose}
 
 module _ {R : Type 0} (is_record : (program : ℕ) → R → Digraph → Type 0) where
   -- what is left are records

@@ -1,5 +1,5 @@
 -- Proofs of `keep_held`, src/version_records.rt.
-use Rattle.std.proofs.Common.{◌≡◌, ◌∙◌, Option, None, Some, refl, sym, ap}
+use Rattle.std.proofs.Common.{◌≡◌, ◌∙◌, None, Some, refl, sym}
 use Rattle.version_records.proofs.Changing.{held_changed}
 use Rattle.version_records.proofs.Maps.{inserted_at}
 use Rattle.version_records.proofs.version_records.VersionRecords.keep_held.Goals as goal

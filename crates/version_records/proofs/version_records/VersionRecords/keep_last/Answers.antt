@@ -1,5 +1,5 @@
 -- Proofs of `keep_last`, src/version_records.rt.
-use Rattle.std.proofs.Common.{◌≡◌, ◌∙◌, Option, None, Some, refl, sym, ap}
+use Rattle.std.proofs.Common.{◌≡◌, ◌∙◌, None, Some, refl, sym, ap}
 use Rattle.std.proofs.lemmas.Option.{same_Some}
 use Rattle.version_records.specs.declared.version_records.VersionRecord.{VersionRecord}
 use Rattle.version_records.proofs.Changing.{last_changed}

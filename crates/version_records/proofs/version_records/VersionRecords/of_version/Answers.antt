@@ -1,5 +1,5 @@
 -- Proofs of `of_version`, src/version_records.rt.
-use Rattle.std.proofs.Common.{◌≡◌, ◌∙◌, refl, inl, rules}
+use Rattle.std.proofs.Common.{refl, inl, rules}
 use Rattle.version_records.proofs.Changing.{held_is}
 use Rattle.version_records.proofs.version_records.VersionRecords.of_version.Goals as goal
 
