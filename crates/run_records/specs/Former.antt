@@ -8,6 +8,6 @@ use Rattle.run_records.specs.declared.recorded_run.FormerRecord.{FormerRecord}
 
 -- the record is of this plan, and its graph has as many vertices as this one and, but for the listed ones, the same edges
 pub record IsFormerOf (plan : Plan) (graph : Digraph) (former : FormerRecord) : Type 0 where
-  pub plan : arc_value former.run_record.now.plan ≡ plan
+  pub of : arc_value former.run_record.now.plan ≡ plan
   pub vertices : (arc_value former.run_record.now.graph).vertices ≡ graph.vertices
   pub edges : AreSameBut former.edges.now graph.edges (arc_value former.run_record.now.graph).edges

@@ -29,7 +29,7 @@ pub trait Programs {
     ghost trees: { Self → List ProgramTree };
 
     /// The record is that of a run of the program at an index, counted from 0, on this graph.
-    ghost is_record: { Self → ℕ → Record → Digraph → Type 0 };
+    ghost is_record: { Self → ℕ → Self.Record → Digraph → Type 0 };
 
     /// Runs go as is promised.
     ghost are_ready: { Self → Type 0 };
