@@ -2,7 +2,7 @@
 ghost use Rattle.std.specs.Prelude.{◌≡◌, map, IfOk};
 ghost use Rattle.crew.specs.Outcome.{AreWorkers};
 ghost use Rattle.driver.specs.Reading.{tree_of};
-ghost use Rattle.driver.specs.inside.Programs.{IsRecordOfProgram, MayFollow, ShowsRun};
+ghost use Rattle.driver.specs.inside.Programs.{AreSameFormer, IsRecordOfProgram, MayFollow, ShowsRun};
 
 use crate::compiled_plan::CompiledPlan;
 use crate::first_fault::FirstFault;
@@ -114,7 +114,7 @@ impl<F: Fn(Global, RunOrder<'_>) -> Result<RecordedRun, AllocError>> Programs
         workers: u64,
         former: Option<Predecessor<'_, RunRecord>>,
     ) -> Result<ProgramRun<RunRecord>, AllocError> {
-        let former = former.as_ref().map(record_of);
+        let former = former_of(&former);
         let order = RunOrder {
             program: index,
             plan: &self.plans[index].plan,
@@ -143,12 +143,14 @@ impl<F: Fn(Global, RunOrder<'_>) -> Result<RecordedRun, AllocError>> Programs
 }
 
 // A former record as runs take it.
-fn record_of<'a>(former: &'a Predecessor<'_, RunRecord>) -> FormerRecord<'a>
-    ensures run_record { result.run_record.now ≡ former.now.run_record.now }
-    ensures edges { result.edges.now ≡ former.now.edges.items }
+fn former_of<'a>(former: &'a Option<Predecessor<'_, RunRecord>>) -> Option<FormerRecord<'a>>
+    ensures { AreSameFormer former.now result }
 {
-    FormerRecord {
-        run_record: former.run_record,
-        edges: &former.edges,
+    match former {
+        None => None,
+        Some(former) => Some(FormerRecord {
+            run_record: former.run_record,
+            edges: &former.edges,
+        }),
     }
 }
