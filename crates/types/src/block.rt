@@ -5,16 +5,15 @@ ghost use Rattle.syntax.specs.SourceViews.{statement_kind_tree, for_loop_tree, i
 ghost use Rattle.expression_types.specs.Faults.{ReportsFaults};
 ghost use Rattle.expression_types.specs.ScopeTree.{KeepsNames};
 ghost use Rattle.types.specs.inside.BlockMeaning.{block_typed, declared_from, inner_typed, statement_typed};
-ghost use Rattle.types.specs.inside.Checker.{checker_of};
-ghost use Rattle.types.specs.inside.Initializer.{initializer_tree};
+ghost use Rattle.initializer_types.specs.Views.{checker_of, initializer_tree};
 
 use crate::block_kind::{BlockKind, Compound};
-use crate::checker::{Checker, declare, declare_loop_variable, label};
-use crate::entry::WrittenEntry;
-use crate::initial::{Initializer, read_initial};
-use crate::wanted::{condition, integer};
 use apply_options::Reduction;
 use expression_types::{Fault, entity, type_expression};
+use initializer_types::{
+    Checker, Initializer, WrittenEntry, condition, declare, declare_loop_variable, integer, label,
+    read_initial,
+};
 use std::alloc::AllocError;
 use syntax::{Action, Expression, ForLoop, Initial, Name, Parameter, SimpleAction, Statement};
 

@@ -5,14 +5,11 @@ ghost use Rattle.syntax.specs.SourceViews.{ends_tree};
 ghost use Rattle.expression_types.specs.Faults.{ReportsFaults, least_of, outcome};
 ghost use Rattle.expression_types.specs.ValueTree.{value_tree};
 ghost use Rattle.types.specs.inside.BlockMeaning.{BlockMeaning, IsWalked, compound_tree};
-ghost use Rattle.types.specs.inside.Checker.{checker_of};
-ghost use Rattle.types.specs.inside.Initializer.{initializer_tree};
+ghost use Rattle.initializer_types.specs.Views.{checker_of, initializer_tree};
 
-use crate::checker::Checker;
-use crate::entry::WrittenEntry;
-use crate::initial::Initializer;
 use apply_options::Reduction;
 use expression_types::{Entity, Fault, Value};
+use initializer_types::{Checker, Initializer, WrittenEntry};
 use std::alloc::{AllocError, Global};
 use syntax::{DeclaredType, Ends, Expression, Name};
 use typed_tree::{BoolExpression, IntExpression};

@@ -1,5 +1,5 @@
 //! Typing of declarations: constants and functions.
-ghost use Rattle.std.specs.Prelude.{◌≡◌, [], ◌∷◌, OnOk, Some, false, if◌then◌else◌, map, option_map, pos};
+ghost use Rattle.std.specs.Prelude.{◌≡◌, OnOk, Some, false, if◌then◌else◌, map, option_map, pos};
 ghost use Rattle.syntax.specs.SourceViews.{block_tree as source_block, declaration_tree, initial_tree, parameter_tree};
 ghost use Rattle.typed_tree.specs.BlockTree.{block_tree};
 ghost use Rattle.typed_tree.specs.ProgramTree.{call_tree, program_tree};
@@ -7,23 +7,20 @@ ghost use Rattle.types.specs.Program.{program_tree_of};
 ghost use Rattle.typed_tree.specs.FunctionStatementTree.{function_tree, function_statements_tree};
 ghost use Rattle.expression_types.specs.ScopeTree.{KeepsNames};
 ghost use Rattle.expression_types.specs.Faults.{earlier, ReportsFaults, outcome};
-ghost use Rattle.types.specs.Initial.{ErrorInitializer, is_sound};
-ghost use Rattle.types.specs.inside.Checker.{checker_of};
+ghost use Rattle.initializer_types.specs.Initial.{ErrorInitializer, is_sound};
+ghost use Rattle.initializer_types.specs.Views.{checker_of, initializer_tree, function_kind_tree};
 ghost use Rattle.types.specs.Declaration.{declaration_typed, declarations_typed, declare_bool, declare_constant, declare_constant_as, declare_edges, declare_int, declare_name, declare_set, declare_vector, edge_function_declared, function_declared, has_all, begins, inside_of, literal_or_fault, kind_fits, loads, main_declared, opened, only_edges, parameter, parameters_declared, result_declared, result_entity, steps_declared, takes_weight as weight_taken, with_main_block};
 ghost use Rattle.types.specs.inside.Declaration.{declared_of};
-ghost use Rattle.types.specs.inside.Initializer.{initializer_tree};
-ghost use Rattle.types.specs.inside.FunctionKind.{function_kind_tree};
-ghost use Rattle.types.specs.Literal.{literal_condition, literal_integer};
+ghost use Rattle.initializer_types.specs.DeclarationForms.{literal_condition, literal_integer};
 
 use crate::block::statements;
-use crate::checker::{Checker, declare};
 use crate::function::FunctionBlock;
-use crate::function_kind::{is_int, is_vertex, kind_of};
-use crate::initial::{Initializer, read_initial};
-use crate::literal::{condition_literal, integer_literal};
-use crate::reductions::Reductions;
 use crate::statement::MainBlock;
 use expression_types::{Entity, Fault, Inside, TypeRule, note};
+use initializer_types::{
+    Checker, FunctionKind, Initializer, Reductions, condition_literal, declare, integer_literal,
+    is_int, is_vertex, kind_of, read_initial,
+};
 use std::alloc::AllocError;
 use syntax::{Declaration, DeclaredType, Initial, Name, Parameter, Statement};
 use typed_tree::{
@@ -87,19 +84,6 @@ impl Declared {
             schedule,
         }
     }
-}
-
-/// What a function is, by its name, its parameters and its result.
-#[derive(Clone, Copy)]
-pub(crate) enum FunctionKind {
-    /// The function that is run, and whether it has neither parameters nor a result.
-    Main(bool),
-    /// An edge function, and whether its third parameter is the edge's weight.
-    Edge(bool),
-    Vertex,
-    Filter,
-    /// None of these.
-    Other,
 }
 
 /// The parts of a constant's declaration. `at` is the offset of its first token.

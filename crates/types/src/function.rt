@@ -9,14 +9,12 @@ ghost use Rattle.types.specs.inside.Step.{function_compound};
 ghost use Rattle.types.specs.Step.{entry_step, may_reduce, may_set, no_step, one_reduction, own_vertex, reduction_step, same_endpoint, same_reduction, written_at};
 
 use crate::block_kind::{BlockKind, Compound};
-use crate::checker::Checker;
-use crate::entry::WrittenEntry;
-use crate::initial::{Initializer, read_apply};
-use crate::reductions::Reductions;
-use crate::wanted::{integer, integer_of};
 use apply_options::Reduction;
 use expression_types::{
     Entity, Fault, Inside, TypeRule, Value, entity, note, type_expression, type_index, vector,
+};
+use initializer_types::{
+    Checker, Initializer, Reductions, WrittenEntry, integer, integer_of, read_apply,
 };
 use std::alloc::{AllocError, Global};
 use syntax::{DeclaredType, Ends, Expression, Name};

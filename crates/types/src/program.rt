@@ -8,12 +8,11 @@ ghost use Rattle.expression_types.specs.Faults.{ReportsFaults, outcome};
 ghost use Rattle.types.specs.inside.Declaration.{declared_of};
 ghost use Rattle.types.specs.Program.{Answers, main_of, no_declarations, program_of, set_count};
 
-use crate::checker::Checker;
 use crate::declaration::{Declared, declare_all};
 use crate::error::CheckError;
-use crate::reductions::Reductions;
 use crate::schedule::calls;
 use expression_types::{Fault, Names, Scope, TypeRule, note};
+use initializer_types::{Checker, Reductions};
 use std::alloc::{AllocError, Global};
 use syntax::{Declaration, DeclaredType, Source};
 use typed_tree::{MainStatement, Typed};

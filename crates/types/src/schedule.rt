@@ -3,10 +3,10 @@ ghost use Rattle.std.specs.Prelude.{◌≡◌, ◌∷◌, ◌++◌, IfOk, OnOk, 
 ghost use Rattle.syntax.specs.SourceViews.{call_tree as source_call, chain_tree};
 ghost use Rattle.typed_tree.specs.ProgramTree.{call_tree};
 ghost use Rattle.types.specs.Program.{schedule_call, schedule_calls};
-ghost use Rattle.types.specs.Checker.{without_ends};
+ghost use Rattle.initializer_types.specs.Checker.{without_ends};
 ghost use Rattle.std.specs.Option.{option_map};
 
-use crate::quoted_names::between_ends;
+use initializer_types::between_ends;
 use std::alloc::{AllocError, Global};
 use syntax::{Call, Chain, QuotedText};
 use typed_tree::{Name, ScheduleCall};

@@ -8,21 +8,19 @@ ghost use Rattle.expression_types.specs.Faults.{earlier, outcome};
 ghost use Rattle.expression_types.specs.ValueTree.{value_tree};
 ghost use Rattle.types.specs.inside.Block.{main_compound};
 ghost use Rattle.types.specs.inside.BlockMeaning.{compound_tree};
-ghost use Rattle.types.specs.inside.Initializer.{apply_end_tree};
-ghost use Rattle.types.specs.Initial.{edge_function, names_error, vertex_function};
+ghost use Rattle.initializer_types.specs.Views.{apply_end_tree};
+ghost use Rattle.initializer_types.specs.Initial.{edge_function, names_error, vertex_function};
 ghost use Rattle.types.specs.Statement.{added_to_set, applied, edges_applied, entry_reduced, entry_set, has_ends as ends_are_written, no_action, printed, vertices_applied};
 
 use crate::block_kind::{BlockKind, Compound};
-use crate::checker::Checker;
-use crate::entry::WrittenEntry;
-use crate::initial::{
-    ApplyEnd, Initializer, NamedApply, are_weights_lacking, edge_function_named, ends_of,
-    is_edges_entity, is_error_entity, is_one_wrong, read_apply, vertex_function_named,
-};
-use crate::wanted::{index_of, integer, integer_of};
 use apply_options::Reduction;
 use expression_types::{
     Entity, Fault, TypeRule, Value, entity, note, set_named, type_expression, vector,
+};
+use initializer_types::{
+    ApplyEnd, Checker, Initializer, NamedApply, WrittenEntry, are_weights_lacking,
+    edge_function_named, ends_of, index_of, integer, integer_of, is_edges_entity, is_error_entity,
+    is_one_wrong, read_apply, vertex_function_named,
 };
 use std::alloc::{AllocError, Global};
 use syntax::{DeclaredType, Ends, Expression, Name};

@@ -7,9 +7,9 @@ use Rattle.typed_tree.specs.IntExpressionTree.{int_expression_tree}
 use Rattle.expression_types.specs.Faults.{ReportsFaults, outcome, sure, ◌>>=◌}
 use Rattle.expression_types.specs.ScopeTree.{KeepsNames, left}
 use Rattle.expression_types.proofs.Steps.{outcome_then}
-use Rattle.types.specs.Checker.{in_scope, with_label}
+use Rattle.initializer_types.specs.Checker.{in_scope, with_label}
 use Rattle.types.specs.inside.BlockMeaning.{For, block_typed}
-use Rattle.types.specs.inside.Checker.{checker_of}
+use Rattle.initializer_types.specs.Views.{checker_of}
 use Rattle.types.proofs.Kept.{keeps_on, keeps_same, left_again}
 use Rattle.types.proofs.Walk.{ends_on, for_on, if_on, if_else_on, statement_on, while_on}
 use Rattle.types.proofs.block.+statements.Goals as goal

@@ -3,7 +3,7 @@ use Rattle.syntax.specs.SourceViews.{block_tree}
 use Rattle.expression_types.specs.Faults.{outcome}
 use Rattle.expression_types.specs.ScopeTree.{KeepsNames}
 use Rattle.types.specs.inside.BlockMeaning.{block_typed}
-use Rattle.types.specs.inside.Checker.{checker_of}
+use Rattle.initializer_types.specs.Views.{checker_of}
 use Rattle.types.proofs.block.+statements.Given as goal
 
 -- what the statements that are left give after those so far is what all give

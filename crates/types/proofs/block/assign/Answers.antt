@@ -4,9 +4,8 @@ use Rattle.syntax.specs.SourceViews.{initial_tree}
 use Rattle.expression_types.specs.Expression.{used_name}
 use Rattle.expression_types.specs.Faults.{◌>>=◌, outcome, sure}
 use Rattle.expression_types.proofs.Steps.{outcome_then}
-use Rattle.types.specs.Initial.{initializer_of}
-use Rattle.types.specs.inside.Checker.{checker_of}
-use Rattle.types.specs.inside.Initializer.{initializer_tree}
+use Rattle.initializer_types.specs.Initial.{initializer_of}
+use Rattle.initializer_types.specs.Views.{checker_of, initializer_tree}
 use Rattle.types.proofs.block.assign.Goals as goal
 
 pub returns : goal.returns

@@ -2,10 +2,9 @@
 use Rattle.std.proofs.Common.{◌∙◌}
 use Rattle.expression_types.specs.Faults.{sure}
 use Rattle.expression_types.proofs.Steps.{outcome_then}
-use Rattle.types.specs.Checker.{declared_in}
+use Rattle.initializer_types.specs.Checker.{declared_in}
 use Rattle.types.specs.inside.BlockMeaning.{visible_then}
-use Rattle.types.specs.inside.Checker.{checker_of}
-use Rattle.types.specs.inside.Initializer.{initializer_tree}
+use Rattle.initializer_types.specs.Views.{checker_of, initializer_tree}
 use Rattle.types.proofs.block.declare_initialized.Goals as goal
 
 pub returns-clause-typed : goal.returns-clause-typed

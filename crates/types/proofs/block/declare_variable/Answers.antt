@@ -3,10 +3,9 @@ use Rattle.std.proofs.Common.{subst, sym}
 use Rattle.syntax.specs.SourceViews.{initial_tree, parameter_tree}
 use Rattle.expression_types.specs.Faults.{ReportsFaults}
 use Rattle.expression_types.proofs.Steps.{reports_then}
-use Rattle.types.specs.Initial.{initializer_of}
+use Rattle.initializer_types.specs.Initial.{initializer_of}
 use Rattle.types.specs.inside.BlockMeaning.{declared_from}
-use Rattle.types.specs.inside.Checker.{checker_of}
-use Rattle.types.specs.inside.Initializer.{initializer_tree}
+use Rattle.initializer_types.specs.Views.{checker_of, initializer_tree}
 use Rattle.types.proofs.block.declare_variable.Goals as goal
 
 pub returns-clause-typed : goal.returns-clause-typed

@@ -4,7 +4,7 @@ use Rattle.expression_types.specs.Expression.{used_name, value_of}
 use Rattle.expression_types.specs.Faults.{◌>>=◌, outcome, sure}
 use Rattle.expression_types.specs.ValueTree.{value_tree}
 use Rattle.expression_types.proofs.Steps.{outcome_then}
-use Rattle.types.specs.inside.Checker.{checker_of}
+use Rattle.initializer_types.specs.Views.{checker_of}
 use Rattle.types.proofs.block.reduce.Goals as goal
 
 pub returns : goal.returns

@@ -1,11 +1,10 @@
 -- Proofs of `constant_of`, src/declaration.rt.
 use Rattle.syntax.specs.SourceViews.{initial_tree}
 use Rattle.expression_types.proofs.Steps.{reports_then}
-use Rattle.types.specs.inside.Checker.{checker_of}
+use Rattle.initializer_types.specs.Views.{checker_of, initializer_tree}
 use Rattle.types.specs.Declaration.{declare_constant_as}
 use Rattle.types.specs.inside.Declaration.{declared_of}
-use Rattle.types.specs.inside.Initializer.{initializer_tree}
-use Rattle.types.specs.Initial.{initializer_of}
+use Rattle.initializer_types.specs.Initial.{initializer_of}
 use Rattle.types.proofs.declaration.constant_of.Goals as goal
 
 pub returns : goal.returns

@@ -3,7 +3,7 @@ use Rattle.syntax.specs.SourceViews.{parameter_tree}
 use Rattle.typed_tree.specs.declared.expression.Endpoint.TheVariants.{Source}
 use Rattle.expression_types.specs.Faults.{outcome}
 use Rattle.expression_types.specs.ScopeTree.{KeepsNames}
-use Rattle.types.specs.inside.Checker.{checker_of}
+use Rattle.initializer_types.specs.Views.{checker_of}
 use Rattle.types.specs.Declaration.{parameters_declared}
 use Rattle.types.proofs.declaration.declare_parameters.Given as goal
 

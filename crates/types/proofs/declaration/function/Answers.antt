@@ -5,11 +5,10 @@ use Rattle.typed_tree.specs.FunctionStatementTree.{NoStep, function_statements_t
 use Rattle.expression_types.specs.Faults.{ReportsFaults, ◌>>=◌}
 use Rattle.expression_types.specs.ScopeTree.{left}
 use Rattle.expression_types.proofs.Steps.{reports_then}
-use Rattle.types.specs.inside.Checker.{checker_of}
-use Rattle.types.specs.Checker.{in_scope}
+use Rattle.initializer_types.specs.Views.{checker_of, function_kind_tree}
+use Rattle.initializer_types.specs.Checker.{in_scope}
 use Rattle.types.specs.inside.Declaration.{declared_of}
 use Rattle.types.specs.Declaration.{function_declared, kind_fits, opened}
-use Rattle.types.specs.inside.FunctionKind.{function_kind_tree}
 use Rattle.types.specs.Step.{steps_typed}
 use Rattle.types.proofs.Kept.{left_again, keeps_on}
 use Rattle.types.proofs.declaration.function.Goals as goal

@@ -7,9 +7,10 @@ use Rattle.expression_types.specs.Faults.{outcome, sure, ◌>>=◌}
 use Rattle.expression_types.specs.ScopeTree.{left}
 use Rattle.expression_types.proofs.Steps.{outcome_then}
 use Rattle.types.specs.Block.{statements_typed}
-use Rattle.types.specs.inside.Checker.{checker_of}
-use Rattle.types.specs.Checker.{restarted, in_scope}
-use Rattle.types.specs.Declaration.{MainKind, declare_name, opened, with_main_block}
+use Rattle.initializer_types.specs.Views.{checker_of}
+use Rattle.initializer_types.specs.Checker.{restarted, in_scope}
+use Rattle.initializer_types.specs.DeclarationForms.{MainKind}
+use Rattle.types.specs.Declaration.{declare_name, opened, with_main_block}
 use Rattle.types.specs.inside.Declaration.{declared_of}
 use Rattle.types.proofs.Kept.{left_again, keeps_on}
 use Rattle.types.proofs.declaration.main_function.Goals as goal

@@ -5,10 +5,9 @@ use Rattle.typed_tree.specs.declared.expression.Endpoint.TheVariants.{Source}
 use Rattle.expression_types.specs.Faults.{outcome}
 use Rattle.expression_types.specs.ScopeTree.{entered}
 use Rattle.expression_types.proofs.Steps.{reports_then}
-use Rattle.types.specs.inside.Checker.{checker_of}
-use Rattle.types.specs.Checker.{in_scope}
+use Rattle.initializer_types.specs.Views.{checker_of, function_kind_tree}
+use Rattle.initializer_types.specs.Checker.{in_scope}
 use Rattle.types.specs.Declaration.{inside_of, takes_weight, parameters_declared, result_declared}
-use Rattle.types.specs.inside.FunctionKind.{function_kind_tree}
 use Rattle.types.specs.Step.{with_writes}
 use Rattle.types.proofs.declaration.open.Goals as goal
 

@@ -7,7 +7,7 @@ use Rattle.expression_types.specs.Faults.{outcome, sure, fault_at, ◌>>=◌}
 use Rattle.expression_types.specs.ValueTree.{value_tree}
 use Rattle.expression_types.proofs.Steps.{outcome_then}
 use Rattle.types.specs.Step.{no_add, no_step}
-use Rattle.types.specs.inside.Checker.{checker_of}
+use Rattle.initializer_types.specs.Views.{checker_of}
 use Rattle.types.proofs.function.FunctionBlockBlockKind.add_vertex.Goals as goal
 
 pub returns : goal.returns

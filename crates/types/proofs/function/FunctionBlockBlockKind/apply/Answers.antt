@@ -6,11 +6,11 @@ use Rattle.expression_types.specs.declared.fault.TypeRule.TheVariants as rule
 use Rattle.expression_types.specs.Expression.{used_name}
 use Rattle.expression_types.specs.Faults.{outcome, sure, fault_at, ◌>>=◌}
 use Rattle.expression_types.proofs.Steps.{outcome_then}
-use Rattle.types.specs.Initial.{apply_end_of}
+use Rattle.initializer_types.specs.Initial.{apply_end_of}
 use Rattle.types.specs.Step.{no_apply, no_step}
-use Rattle.types.specs.inside.Applies.{apply_tree}
-use Rattle.types.proofs.Applies.{apply_then}
-use Rattle.types.specs.inside.Checker.{checker_of}
+use Rattle.initializer_types.specs.Applies.{named_apply_tree}
+use Rattle.initializer_types.proofs.Applies.{apply_then}
+use Rattle.initializer_types.specs.Views.{checker_of}
 use Rattle.types.proofs.function.FunctionBlockBlockKind.apply.Goals as goal
 
 pub returns : goal.returns
@@ -27,5 +27,5 @@ returns c =
     (outcome_then c.args.first_fault.now between (fault_at at rule.WrongType no_step) no_step
     (λ s. used_name scope c.args.target.now >>= λ t. apply_end_of scope ends.from >>= λ a. apply_end_of scope ends.to >>= λ b. used_name scope c.args.function.now >>= λ f. sure s)
     (ap (λ n. (no_step, n)) (sym c.wrong-step.ensures.first_fault))
-    ∙ apply_then scope c.args.target.now ends c.args.function.now between new (apply_tree c.read_apply-apply.result) (λ a. sure no_step) c.read_apply-apply.ensures
+    ∙ apply_then scope c.args.target.now ends c.args.function.now between new (named_apply_tree c.read_apply-apply.result) (λ a. sure no_step) c.read_apply-apply.ensures
     ∙ ap (λ s. (s, new)) (sym c.wrong-step.ensures.step)))

@@ -6,9 +6,9 @@ use Rattle.expression_types.specs.Faults.{sure, outcome, ◌>>=◌}
 use Rattle.expression_types.specs.ValueTree.{value_tree}
 use Rattle.expression_types.proofs.Steps.{outcome_then}
 use Rattle.types.specs.Step.{entry_step, may_set, own_vertex, written_at, set_entry_step}
-use Rattle.types.specs.Checker.{integer_in}
+use Rattle.initializer_types.specs.Checker.{integer_in}
 use Rattle.typed_tree.specs.FunctionStatementTree.{function_statement_tree}
-use Rattle.types.specs.inside.Checker.{checker_of}
+use Rattle.initializer_types.specs.Views.{checker_of}
 use Rattle.types.proofs.function.FunctionBlockBlockKind.set_entry.Goals as goal
 
 pub returns : goal.returns

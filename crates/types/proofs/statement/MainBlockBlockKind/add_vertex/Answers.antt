@@ -6,7 +6,7 @@ use Rattle.expression_types.specs.ValueTree.{value_tree}
 use Rattle.expression_types.proofs.Steps.{outcome_then}
 use Rattle.types.specs.Statement.{added_to_set, add_vertex}
 use Rattle.typed_tree.specs.BlockTree.{statement_kind_tree}
-use Rattle.types.specs.inside.Checker.{checker_of}
+use Rattle.initializer_types.specs.Views.{checker_of}
 use Rattle.types.proofs.statement.MainBlockBlockKind.add_vertex.Goals as goal
 
 pub returns : goal.returns

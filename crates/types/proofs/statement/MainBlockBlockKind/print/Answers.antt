@@ -6,7 +6,7 @@ use Rattle.expression_types.specs.Faults.{sure}
 use Rattle.expression_types.specs.ValueTree.{value_tree}
 use Rattle.expression_types.proofs.Steps.{outcome_then}
 use Rattle.types.specs.Statement.{print, printed}
-use Rattle.types.specs.inside.Checker.{checker_of}
+use Rattle.initializer_types.specs.Views.{checker_of}
 use Rattle.types.proofs.statement.MainBlockBlockKind.print.Goals as goal
 
 pub returns : goal.returns

@@ -7,9 +7,9 @@ use Rattle.expression_types.specs.Faults.{sure, ◌>>=◌, outcome}
 use Rattle.expression_types.specs.ValueTree.{value_tree}
 use Rattle.expression_types.proofs.Steps.{outcome_then}
 use Rattle.types.specs.Statement.{entry_reduced, reduce_entry}
-use Rattle.types.specs.Checker.{as_index, integer_in}
+use Rattle.initializer_types.specs.Checker.{as_index, integer_in}
 use Rattle.typed_tree.specs.BlockTree.{statement_kind_tree}
-use Rattle.types.specs.inside.Checker.{checker_of}
+use Rattle.initializer_types.specs.Views.{checker_of}
 use Rattle.types.proofs.statement.MainBlockBlockKind.reduce_entry.Goals as goal
 
 pub returns-clause-typed : goal.returns-clause-typed
