@@ -1,5 +1,6 @@
 -- Outcomes of serving a race.
 use Rattle.std.specs.Prelude.{◌≡◌, ℕ, ◌<◌, ◌+◌, Bool, List, ◌++◌, ◌⊎◌, Result, Ok, Err, Some, length, map}
+use Rattle.std.specs.Arc.{arc_value}
 use Rattle.std.specs.Borrow.{Bor}
 use Rattle.std.specs.declared.io.Error.{Error}
 use Rattle.algorithm_meaning.specs.ProgramTree.{ProgramTree}
@@ -38,7 +39,7 @@ pub record IsRaceOf (holds : List ℕ → List ℕ → Type 0) (script : List �
   pub compiled : HoldPrograms holds names (map tree_of programs)
   pub order : Order
   pub held : HoldsScript (holds script) order
-  pub is_race : IsRace order.vertices 16777216 order.batches (map (λ p. p.plan) programs) turns race
+  pub is_race : IsRace order.vertices 16777216 order.batches (map (λ p. arc_value p.plan) programs) turns race
   pub opened : MayOpen order.vertices order.chunk_size (length programs + 1)
   pub run_by : MayRun workers race.runs.items
 

@@ -1,5 +1,6 @@
 -- Files, and the texts and plans that are made of them.
 use Rattle.std.specs.Prelude.{[], ◌≡◌, ◌≢◌, ℕ, List, ◌∷◌, ◌⊎◌, Result, Ok, Err}
+use Rattle.std.specs.Arc.{arc_value}
 use Rattle.std.specs.Borrow.{Bor}
 use Rattle.std.specs.Global.{Vec}
 use Rattle.std.specs.declared.io.Error.{Error}
@@ -77,4 +78,4 @@ pub record LacksScript (holds : List ℕ → List ℕ → Type 0) (fails : List 
   pub failed : FailsRead (fails script) script e
 
 abbrev pub tree_of : CompiledPlan → ProgramTree
-tree_of compiled = program_of compiled.plan
+tree_of compiled = program_of (arc_value compiled.plan)

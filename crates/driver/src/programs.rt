@@ -2,29 +2,31 @@
 ghost use Rattle.std.specs.Prelude.{◌≡◌, map, IfOk};
 ghost use Rattle.crew.specs.Outcome.{AreWorkers};
 ghost use Rattle.driver.specs.Reading.{tree_of};
-ghost use Rattle.driver.specs.inside.Programs.{ShowsMeaning};
+ghost use Rattle.driver.specs.inside.Programs.{IsRecordOfProgram, MayFollow, ShowsRun};
 
 use crate::compiled_plan::CompiledPlan;
 use crate::first_fault::FirstFault;
 use crate::refused_lines::RefusedLines;
-use algorithm_meaning::Outcome;
-use crew::Open;
+use crew::{Open, WorkerCount, Workers};
 use flat_snapshot::Flat;
 use plans::Plan;
-use runner::{RunError, run};
-use scripts::Programs;
+use run_records::{FormerRecord, RecordedRun, RunRecord, run_with_record};
+use scripts::{ProgramRun, Programs};
 use std::alloc::{AllocError, Global};
+use std::sync::Arc;
 use std::thread::Threads;
+use version_records::Predecessor;
 
-/// The run of a plan on a snapshot of a graph, for at most n turns, by n workers.
+/// The run of a plan on a snapshot of a graph, for at most n turns, by n workers, which may follow a former run.
 #[derive(Clone, Copy)]
 pub(crate) struct RunOrder<'a> {
     // The index of the program among those of the request.
     pub(crate) program: usize,
-    pub(crate) plan: &'a Plan,
-    pub(crate) graph: &'a Flat,
+    pub(crate) plan: &'a Arc<Plan>,
+    pub(crate) graph: &'a Arc<Flat>,
     pub(crate) turns: u64,
     pub(crate) workers: usize,
+    pub(crate) former: Option<FormerRecord<'a>>,
 }
 
 /// Does a run that is ordered, and notes a fault that is the first. The only error is out of memory.
@@ -33,27 +35,27 @@ pub(crate) fn run_by_workers<T: Threads + Sync>(
     alloc: Global,
     order: RunOrder<'_>,
     first_fault: &FirstFault,
-) -> Result<Outcome, AllocError>
-    requires { AreWorkers order.workers }
-    ensures { IfOk result (ShowsMeaning order.entry) }
+) -> Result<RecordedRun, AllocError>
+    requires workers { AreWorkers order.workers }
+    requires former { MayFollow order }
+    ensures { IfOk result (ShowsRun order.entry) }
 {
-    let done = run(
-        rt,
-        alloc,
-        order.plan,
-        order.graph,
-        order.workers,
-        order.turns,
-        &Open,
-    );
-    match done {
-        Ok(outcome) => {
-            first_fault.see(order.program, outcome.end);
-            Ok(outcome)
-        }
-        Err(RunError::NoMemory) => Err(AllocError),
-        Err(RunError::BadWorkers) => unreachable!(),
-    }
+    let RunOrder {
+        program,
+        plan,
+        graph,
+        turns,
+        workers,
+        former,
+    } = order;
+    let Some(count) = WorkerCount::new(workers) else {
+        unreachable!();
+    };
+    let gate = &Open;
+    let workers = Workers { rt, gate, count };
+    let run = run_with_record(&workers, alloc, plan, graph, turns, former)?;
+    first_fault.see(program, run.outcome.end);
+    Ok(run)
 }
 
 /// The programs of a command line, in its order, the closure that runs them, as a method of a trait may start no threads, and
@@ -87,13 +89,17 @@ impl<'a, F> CompiledPrograms<'a, F> {
     }
 }
 
-impl<F: Fn(Global, RunOrder<'_>) -> Result<Outcome, AllocError>> Programs
+impl<F: Fn(Global, RunOrder<'_>) -> Result<RecordedRun, AllocError>> Programs
     for CompiledPrograms<'_, F> {
+    type Record = RunRecord;
+
     ghost trees = { λ p. map tree_of p.plans.items };
 
-    // The closure may be called for 1 to 64 workers, and tells what the plan's program means.
-    ghost are_ready = { λ p. ((alloc : _) (order : _) → AreWorkers order.workers → F.pre p.by alloc order)
-        × ((alloc : _) (order : _) (r : _) → F.post p.by alloc order r → IfOk r (ShowsMeaning order)) };
+    ghost is_record = { λ p index r g. IsRecordOfProgram p.plans.items index r g };
+
+    // The closure may be called for 1 to 64 workers, beside the record of a former run, and tells what the plan's program means.
+    ghost are_ready = { λ p. ((alloc : _) (order : _) → AreWorkers order.workers → MayFollow order → F.pre p.by alloc order)
+        × ((alloc : _) (order : _) (r : _) → F.post p.by alloc order r → IfOk r (ShowsRun order)) };
 
     fn count(&self) -> usize {
         self.plans.len()
@@ -103,18 +109,28 @@ impl<F: Fn(Global, RunOrder<'_>) -> Result<Outcome, AllocError>> Programs
         &self,
         alloc: Global,
         index: usize,
-        graph: &Flat,
+        graph: &Arc<Flat>,
         turns: u64,
         workers: u64,
-    ) -> Result<Outcome, AllocError> {
+        former: Option<Predecessor<'_, RunRecord>>,
+    ) -> Result<ProgramRun<RunRecord>, AllocError> {
+        let former = former.as_ref().map(record_of);
         let order = RunOrder {
             program: index,
             plan: &self.plans[index].plan,
             graph,
             turns,
             workers: workers as usize,
+            former,
         };
-        (self.by)(alloc, order)
+        let RecordedRun {
+            outcome,
+            run_record,
+        } = (self.by)(alloc, order)?;
+        Ok(ProgramRun {
+            outcome,
+            run_record,
+        })
     }
 
     fn begin_line(&self) {
@@ -123,5 +139,16 @@ impl<F: Fn(Global, RunOrder<'_>) -> Result<Outcome, AllocError>> Programs
 
     fn see_refusal(&self, number: u16) {
         self.refused.see(number);
+    }
+}
+
+// A former record as runs take it.
+fn record_of<'a>(former: &'a Predecessor<'_, RunRecord>) -> FormerRecord<'a>
+    ensures run_record { result.run_record.now ≡ former.now.run_record.now }
+    ensures edges { result.edges.now ≡ former.now.edges.items }
+{
+    FormerRecord {
+        run_record: former.run_record,
+        edges: &former.edges,
     }
 }

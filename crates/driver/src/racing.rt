@@ -1,6 +1,7 @@
 //! Races of programs in files, beside the commits of a script in a file.
 
 ghost use Rattle.std.specs.Prelude.{◌≡◌, IfOk, map};
+ghost use Rattle.std.specs.Arc.{arc_value};
 ghost use Rattle.scripts.specs.Script.{taken_by_writer};
 ghost use Rattle.driver.specs.Endings.{of_race, of_race_script};
 ghost use Rattle.driver.specs.Racing.{RacesFiles};
@@ -71,9 +72,9 @@ fn note_faults(raced: &Race, first_fault: &FirstFault) {
 
 // The plans of programs that were compiled.
 fn plans_of<'a>(alloc: Global, compiled: &'a [CompiledPlan]) -> Result<Vec<&'a Plan>, AllocError>
-    ensures { IfOk result (λ plans. map (λ p. p.now) plans.items ≡ map (λ c. c.plan) compiled.now) }
+    ensures { IfOk result (λ plans. map (λ p. p.now) plans.items ≡ map (λ c. arc_value c.plan) compiled.now) }
 {
-    compiled.iter().map(|one| &one.plan).collect(alloc)
+    compiled.iter().map(|one| &*one.plan).collect(alloc)
 }
 
 // The script of a race that the file of this name holds.

@@ -3,7 +3,7 @@
 ghost use Rattle.std.specs.Prelude.{◌≡◌, codes, map, IfOk};
 ghost use Rattle.std.specs.Str.{bytes_eq};
 ghost use Rattle.crew.specs.Outcome.{AreWorkers};
-ghost use Rattle.driver.specs.inside.Programs.{ShowsMeaning};
+ghost use Rattle.driver.specs.inside.Programs.{MayFollow, ShowsRun};
 ghost use Rattle.scripts.specs.Script.{input as input_of, taken_by_writer, RunsScript};
 ghost use Rattle.driver.specs.inside.Reading.{CompilesFile, CompilesFiles};
 ghost use Rattle.driver.specs.Serving.{script_end_of, ChecksFile, PrintsPlan, RunsFiles, RunsStream, Serves, ServesScript};
@@ -16,14 +16,14 @@ use crate::programs::{CompiledPrograms, RunOrder, run_by_workers};
 use crate::racing::{RaceBounds, RaceFiles, race_files};
 use crate::refused_lines::RefusedLines;
 use crate::telling::{told, told_of_script};
-use algorithm_meaning::Outcome;
 use compiler::{CompileError, compile};
 use devices::{Drain, Feed, write_all};
 use plans::Plan;
 use requests::Request;
+use run_records::RecordedRun;
 use scripts::{ScriptError, ScriptState, run_text, script};
 use std::alloc::{AllocError, Global};
-use std::sync::Wait;
+use std::sync::{Arc, Wait};
 use std::thread::Threads;
 
 // What is written of a program that compiles.
@@ -112,9 +112,10 @@ fn serve_script<'a, T: Threads + Sync, F: Files, R: Feed, W: Drain, E: Drain>(
     let first_fault = &FirstFault::new();
     let refused = &RefusedLines::new();
     let programs = ProgramFiles::new(names, first_fault, refused);
-    let by = |alloc: Global, order: RunOrder<'_>| -> Result<Outcome, AllocError>
-        requires { AreWorkers order.workers }
-        ensures { IfOk result (ShowsMeaning order.entry) }
+    let by = |alloc: Global, order: RunOrder<'_>| -> Result<RecordedRun, AllocError>
+        requires workers { AreWorkers order.workers }
+        requires former { MayFollow order }
+        ensures { IfOk result (ShowsRun order.entry) }
     { run_by_workers(rt, alloc, order, first_fault) };
     let (ended, state) = if script == STREAM {
         run_stream(alloc, programs, by, files, input, out)
@@ -173,7 +174,7 @@ fn print_plan<'a, F: Files, W: Drain>(
 }
 
 // Compiles the programs in the files of these names, and then runs the script that a file holds, each program by `by`.
-fn run_file<'a, B: Fn(Global, RunOrder<'_>) -> Result<Outcome, AllocError>, F: Files, W: Drain>(
+fn run_file<'a, B: Fn(Global, RunOrder<'_>) -> Result<RecordedRun, AllocError>, F: Files, W: Drain>(
     alloc: Global,
     script: &'a str,
     programs: ProgramFiles<'_, 'a>,
@@ -181,8 +182,8 @@ fn run_file<'a, B: Fn(Global, RunOrder<'_>) -> Result<Outcome, AllocError>, F: F
     files: &F,
     out: &mut W,
 ) -> (Result<bool, ServeError<'a>>, Option<ScriptState>)
-    requires may_run { (alloc : _) (order : _) → AreWorkers order.workers → B.pre by alloc order }
-    requires runs { (alloc : _) (order : _) (r : _) → B.post by alloc order r → IfOk r (ShowsMeaning order) }
+    requires may_run { (alloc : _) (order : _) → AreWorkers order.workers → MayFollow order → B.pre by alloc order }
+    requires runs { (alloc : _) (order : _) (r : _) → B.post by alloc order r → IfOk r (ShowsRun order) }
     ensures { RunsFiles (F.may_hold files.now) (F.may_fail files.now) script.entry.now (map (λ p. p.now) programs.entry.names.now)
         (taken_by_writer (W.bytes_written out.old) (W.failures out.old))
         (taken_by_writer (W.bytes_written out.new) (W.failures out.new)) result.0 }
@@ -203,7 +204,7 @@ fn run_file<'a, B: Fn(Global, RunOrder<'_>) -> Result<Outcome, AllocError>, F: F
 // Compiles the programs in the files of these names, and then runs the standard input as a script with them, each by `by`.
 fn run_stream<
     'a,
-    B: Fn(Global, RunOrder<'_>) -> Result<Outcome, AllocError>,
+    B: Fn(Global, RunOrder<'_>) -> Result<RecordedRun, AllocError>,
     F: Files,
     R: Feed,
     W: Drain,
@@ -215,8 +216,8 @@ fn run_stream<
     input: &mut R,
     out: &mut W,
 ) -> (Result<bool, ServeError<'a>>, Option<ScriptState>)
-    requires may_run { (alloc : _) (order : _) → AreWorkers order.workers → B.pre by alloc order }
-    requires runs { (alloc : _) (order : _) (r : _) → B.post by alloc order r → IfOk r (ShowsMeaning order) }
+    requires may_run { (alloc : _) (order : _) → AreWorkers order.workers → MayFollow order → B.pre by alloc order }
+    requires runs { (alloc : _) (order : _) (r : _) → B.post by alloc order r → IfOk r (ShowsRun order) }
     ensures { RunsStream (F.may_hold files.now) (F.may_fail files.now) (map (λ p. p.now) programs.entry.names.now)
         (input_of (R.bytes_read input.old) (R.ended input.old) (R.failures input.old))
         (input_of (R.bytes_read input.new) (R.ended input.new) (R.failures input.new))
@@ -243,7 +244,9 @@ pub(crate) fn compiled_files<'a, F: Files>(
     let mut compiled = Vec::new(alloc);
     'names: for name in names {
         let plan = compiled_file(alloc, name, files)?;
-        compiled.push(CompiledPlan { plan })?;
+        compiled.push(CompiledPlan {
+            plan: Arc::new(alloc, plan)?,
+        })?;
     }
     Ok(compiled)
 }

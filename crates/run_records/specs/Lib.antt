@@ -1,2 +1,3 @@
+pub mod Former
 pub mod Recorded
 pub mod inside

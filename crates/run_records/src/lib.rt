@@ -13,6 +13,8 @@
 //! [`room_of_record`] allows. If memory is refused for a record, or while a record is followed, the record is dropped: that is
 //! no error of the run.
 //!
+//! [`run_with_record`] runs a plan by workers, beside a record if there is one.
+//!
 //! To keep the result of a former state and to compute only what a change reaches is incremental computation; see
 //! `follow_engine`.
 #![tactic(auto)]
@@ -31,6 +33,6 @@ mod tests;
 
 pub use apply_record::ApplyRecord;
 pub use follower::Follower;
-pub use recorded_run::{RecordedRun, run_after, run_recorded};
+pub use recorded_run::{FormerRecord, RecordedRun, run_after, run_recorded, run_with_record};
 pub use recording::room_of_record;
 pub use run_record::RunRecord;

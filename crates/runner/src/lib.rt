@@ -37,7 +37,7 @@ mod plan_run;
 mod run_error;
 mod sets;
 mod steps;
-mod traverse;
+mod traversal;
 mod variables;
 mod whole_run;
 
@@ -46,4 +46,5 @@ pub use edge_applier::{ApplyEngine, EdgeApplier, ParallelApplier, SerialApplier}
 pub use edge_maps::{EdgeMap, apply_of, edge_map};
 pub use job::{Job, Stand};
 pub use run_error::RunError;
+pub use traversal::traverse;
 pub use whole_run::{run, run_alone, run_by, run_by_workers};

@@ -17,7 +17,7 @@ use crate::direction::Traversal;
 use crate::edge_applier::{EdgeApplier, ParallelApplier, SerialApplier};
 use crate::plan_run::PlanRun;
 use crate::run_error::RunError;
-use crate::traverse::traverse;
+use crate::traversal::traverse;
 use algorithm_meaning::Outcome;
 use crew::{Gate, WorkerCount, Workers};
 use edge_apply::Apply;

@@ -2,3 +2,4 @@
 pub mod Parsing
 pub mod Stepping
 pub mod Progress
+pub mod Records

@@ -16,6 +16,9 @@
 //! the replies is there, whatever the reader would have given next (`specs/Script.antt`). A run's
 //! reply is written before the next line is done.
 //!
+//! A run may follow the record of a former run of the same program: [`script`] keeps the records beside the versions (crate
+//! `version_records`), and [`Programs`] says what a record is. No reply depends on it.
+//!
 //! [`joined_pieces`], [`first_piece`] and [`last_line`] are laws of the definitions themselves, and do
 //! nothing when called. The program depends on this crate.
 #![tactic(auto)]
@@ -36,7 +39,7 @@ pub use commands::{Command, DEFAULT_CHUNK_SIZE};
 pub use error::ScriptError;
 pub use parse::command;
 pub use pieces::{first_piece, joined_pieces, last_line, split_line};
-pub use programs::Programs;
+pub use programs::{ProgramRun, Programs};
 pub use script_state::ScriptState;
 pub use scripts::script;
 pub use whole_text::run_text;

@@ -5,6 +5,7 @@ ghost use Rattle.std.specs.Option.{option_map};
 ghost use Rattle.algorithm_meaning.specs.ProgramTree.{ProgramTree};
 ghost use Rattle.version_list.specs.declared.step.Step.TheVariants as step;
 ghost use Rattle.version_flats.specs.VersionFlats.{IsKept};
+ghost use Rattle.version_records.specs.VersionRecords.{AreRecordsOf, MayLose};
 ghost use Rattle.replies.specs.declared.send_error.SendError.TheVariants.{NoMemory};
 ghost use Rattle.scripts.specs.Replies.{on_open, joined, stepping, which_of, graph_of, listing, running, program_of};
 ghost use Rattle.replies.specs.ReplyText.{line_text};
@@ -13,7 +14,7 @@ ghost use Rattle.scripts.specs.inside.Stepping.{IsAnswered, refusal_of};
 
 use crate::commands::Command;
 use crate::host::Host;
-use crate::programs::Programs;
+use crate::programs::{ProgramRun, Programs};
 use apply_options::MAX_WORKERS;
 use devices::Drain;
 use refusal_numbers::{BAD_LINE, BAD_WORKERS, NO_PROGRAM};
@@ -24,6 +25,7 @@ use std::mem;
 use tree_batch::{Batch, Entry, Graph};
 use version_flats::VersionFlats;
 use version_list::{Ticket, VersionError, Versions, Which};
+use version_records::VersionRecords;
 
 /// What a `run` line asks: the program of a number, which counts from 1, within a bound of turns, by so many workers, on the
 /// version that a ticket holds, or on the newest.
@@ -96,13 +98,16 @@ impl OpenGraph {
         &mut self,
         host: &Host<'_, P>,
         command: Command,
+        records: &mut VersionRecords<P::Record>,
         replies: &mut ReplyWriter<'_, W>,
     ) -> Result<(), SendError>
         requires ready { P.are_ready host.now.programs.now }
+        requires records { AreRecordsOf (P.is_record host.now.programs.now) self.old.versions records.old }
         ensures emits { Emits replies.old replies.new
             (on_open (P.trees host.now.programs.now) self.old command).text result }
         ensures state { OnOk result
             (self.new ≡ (on_open (P.trees host.now.programs.now) self.old command).state) }
+        ensures records { AreRecordsOf (P.is_record host.now.programs.now) self.old.versions records.new }
     {
         match command {
             Command::Vertices { .. } => host.refuse(BAD_LINE, replies),
@@ -116,9 +121,9 @@ impl OpenGraph {
                 destination,
             } => self.join(Entry::Remove(source, destination)),
             Command::Grow { vertices } => self.join(Entry::Grow(vertices)),
-            Command::Commit => host.reply(self.commit(host.alloc), replies),
+            Command::Commit => host.reply(self.commit(host.alloc, records), replies),
             Command::Hold { version } => host.reply(self.hold(version), replies),
-            Command::Release { ticket } => host.reply(self.release(ticket), replies),
+            Command::Release { ticket } => host.reply(self.release(ticket, records), replies),
             Command::Edges { ticket } => self.list(host, ticket, replies),
             Command::Run {
                 program,
@@ -132,7 +137,7 @@ impl OpenGraph {
                     workers,
                     ticket,
                 };
-                self.run_numbered(host, line, replies)
+                self.run_numbered(host, line, records, replies)
             }
         }
     }
@@ -147,15 +152,22 @@ impl OpenGraph {
         }
     }
 
-    fn commit(&mut self, alloc: Global) -> Result<LineReply, AllocError>
-        ensures { IfOk result (IsAnswered self.new
+    fn commit<R: Drop>(
+        &mut self,
+        alloc: Global,
+        records: &mut VersionRecords<R>,
+    ) -> Result<LineReply, AllocError>
+        ensures answered { IfOk result (IsAnswered self.new
             (stepping self.old (step.Commit self.old.pending) [])) }
+        ensures records { MayLose records.old records.new }
     {
         let (before, _) = self.versions.newest();
         let batch = mem::replace(&mut self.pending, Batch::new(alloc));
+        let entries = batch.len();
         match self.versions.commit(alloc, batch) {
             Ok(number) => {
                 self.flats.let_go(&self.versions, before);
+                records.after_commit(&self.versions, entries);
                 Ok(LineReply::Version(number))
             }
             Err(error) => refusal(error),
@@ -176,9 +188,14 @@ impl OpenGraph {
         Ok(LineReply::Ticket(ticket.number, held))
     }
 
-    fn release(&mut self, number: u64) -> Result<LineReply, AllocError>
-        ensures { IfOk result (IsAnswered self.new
+    fn release<R: Drop>(
+        &mut self,
+        number: u64,
+        records: &mut VersionRecords<R>,
+    ) -> Result<LineReply, AllocError>
+        ensures answered { IfOk result (IsAnswered self.new
             (stepping self.old (step.Release number) self.old.pending)) }
+        ensures records { MayLose records.old records.new }
     {
         let ticket = Ticket { number };
         let Some((version, _)) = self.versions.kept(ticket) else {
@@ -187,6 +204,7 @@ impl OpenGraph {
         match self.versions.release(ticket) {
             Ok(()) => {
                 self.flats.let_go(&self.versions, version);
+                records.after_release(&self.versions, version);
                 Ok(LineReply::Released(number))
             }
             Err(error) => refusal(error),
@@ -214,20 +232,23 @@ impl OpenGraph {
         &mut self,
         host: &Host<'_, P>,
         line: RunLine,
+        records: &mut VersionRecords<P::Record>,
         replies: &mut ReplyWriter<'_, W>,
     ) -> Result<(), SendError>
         requires ready { P.are_ready host.now.programs.now }
+        requires records { AreRecordsOf (P.is_record host.now.programs.now) self.old.versions records.old }
         ensures emits { Emits replies.old replies.new (running self.old line.turns line.workers
             (program_of (P.trees host.now.programs.now) line.program) (graph_of self.old.versions line.ticket)).text result }
         ensures state { OnOk result (self.new ≡ (running self.old line.turns line.workers
             (program_of (P.trees host.now.programs.now) line.program) (graph_of self.old.versions line.ticket)).state) }
+        ensures records { AreRecordsOf (P.is_record host.now.programs.now) self.old.versions records.new }
         ensures written { (program : ProgramTree) → program_of (P.trees host.now.programs.now) line.program ≡ Some program
             → OnOk result (replies.new.kept ≡ []) }
     {
         let Some(index) = index_of(host.programs, line.program) else {
             return host.refuse(NO_PROGRAM, replies);
         };
-        self.run(host, index, line, replies)
+        self.run(host, index, line, records, replies)
     }
 
     /// Runs the program at an index as a line asks, and writes what the run shows: no reply is kept after it.
@@ -236,17 +257,20 @@ impl OpenGraph {
         host: &Host<'_, P>,
         index: usize,
         line: RunLine,
+        records: &mut VersionRecords<P::Record>,
         replies: &mut ReplyWriter<'_, W>,
     ) -> Result<(), SendError>
         requires ready { P.are_ready host.now.programs.now }
         requires index { index < length (P.trees host.now.programs.now) }
+        requires records { AreRecordsOf (P.is_record host.now.programs.now) self.old.versions records.old }
         ensures emits { Emits replies.old replies.new (running self.old line.turns line.workers
             (slice_get (P.trees host.now.programs.now) index) (graph_of self.old.versions line.ticket)).text result }
         ensures state { OnOk result (self.new ≡ (running self.old line.turns line.workers
             (slice_get (P.trees host.now.programs.now) index) (graph_of self.old.versions line.ticket)).state) }
+        ensures records { AreRecordsOf (P.is_record host.now.programs.now) self.old.versions records.new }
         ensures written { OnOk result (replies.new.kept ≡ []) }
     {
-        self.send_run(host, index, line, replies)?;
+        self.send_run(host, index, line, records, replies)?;
         replies.flush()
     }
 
@@ -256,14 +280,17 @@ impl OpenGraph {
         host: &Host<'_, P>,
         index: usize,
         line: RunLine,
+        records: &mut VersionRecords<P::Record>,
         replies: &mut ReplyWriter<'_, W>,
     ) -> Result<(), SendError>
         requires ready { P.are_ready host.now.programs.now }
         requires index { index < length (P.trees host.now.programs.now) }
+        requires records { AreRecordsOf (P.is_record host.now.programs.now) self.old.versions records.old }
         ensures emits { Emits replies.old replies.new (running self.old line.turns line.workers
             (slice_get (P.trees host.now.programs.now) index) (graph_of self.old.versions line.ticket)).text result }
         ensures state { OnOk result (self.new ≡ (running self.old line.turns line.workers
             (slice_get (P.trees host.now.programs.now) index) (graph_of self.old.versions line.ticket)).state) }
+        ensures records { AreRecordsOf (P.is_record host.now.programs.now) self.old.versions records.new }
     {
         let RunLine {
             turns,
@@ -278,7 +305,16 @@ impl OpenGraph {
             return host.refuse(BAD_WORKERS, replies);
         }
         let flat = self.flats.flat(host.alloc, version, graph)?;
-        let outcome = host.programs.run(host.alloc, index, &flat, turns, workers)?;
+        let program = index as u64;
+        let former = records.predecessor(host.alloc, &self.versions, program, version);
+        let ran = host
+            .programs
+            .run(host.alloc, index, &flat, turns, workers, former)?;
+        let ProgramRun {
+            outcome,
+            run_record,
+        } = ran;
+        records.keep(&self.versions, program, version, run_record);
         self.faulted = self.faulted || is_fault(outcome.end);
         replies.send_outcome(&outcome)
     }

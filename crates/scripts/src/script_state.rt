@@ -2,6 +2,7 @@
 ghost use Rattle.std.specs.Prelude.{◌≡◌, [], ◌++◌, None, OnOk};
 ghost use Rattle.scripts.specs.Commands.{HasNone};
 ghost use Rattle.scripts.specs.inside.Progress.{at_start, reading_after, replies_within};
+ghost use Rattle.scripts.specs.inside.Records.{AreRecordsIn};
 ghost use Rattle.scripts.specs.Replies.{answer, unopened, has_faulted as state_has_faulted};
 ghost use Rattle.replies.specs.Sending.{Emits};
 
@@ -17,6 +18,7 @@ use replies::{LineReply, ReplyWriter, SendError};
 use std::alloc::Global;
 use std::marker::Model;
 use version_list::Versions;
+use version_records::VersionRecords;
 
 /// What a script has opened and how far it has been read: the graph that the lines so far opened, if they
 /// did, with its versions, and the beginning of the line that has not ended.
@@ -72,18 +74,21 @@ impl ScriptState {
         &mut self,
         host: &Host<'_, P>,
         bytes: &[u8],
+        records: &mut VersionRecords<P::Record>,
         replies: &mut ReplyWriter<'_, W>,
     ) -> Result<(), SendError>
         requires ready { P.are_ready host.now.programs.now }
         requires partial { HasNone 10 self.old.partial }
+        requires records { AreRecordsIn (P.is_record host.now.programs.now) self.old.state records.old }
         ensures emits { Emits replies.old replies.new
             (replies_within (P.trees host.now.programs.now) self.old bytes.now) result }
         ensures reading { OnOk result
             (self.new ≡ reading_after (P.trees host.now.programs.now) self.old bytes.now) }
+        ensures records { OnOk result (AreRecordsIn (P.is_record host.now.programs.now) self.new.state records.new) }
     {
         let mut rest = bytes;
         'lines: while let Some((line, after)) = split_line(rest) {
-            self.end_line(host, line, replies)?;
+            self.end_line(host, line, records, replies)?;
             rest = after;
         }
         self.partial.extend_from_slice(rest)?;
@@ -95,9 +100,11 @@ impl ScriptState {
         &mut self,
         host: &Host<'_, P>,
         bytes: &[u8],
+        records: &mut VersionRecords<P::Record>,
         replies: &mut ReplyWriter<'_, W>,
     ) -> Result<(), SendError>
         requires ready { P.are_ready host.now.programs.now }
+        requires records { AreRecordsIn (P.is_record host.now.programs.now) self.old.state records.old }
         ensures emits { Emits replies.old replies.new (answer (P.trees host.now.programs.now)
             self.old.state (self.old.partial ++ bytes.now)).text result }
         ensures reading { OnOk result (self.new ≡ record {
@@ -105,12 +112,13 @@ impl ScriptState {
               self.old.state (self.old.partial ++ bytes.now)).state;
           partial = [];
         }) }
+        ensures records { AreRecordsIn (P.is_record host.now.programs.now) self.old.state records.new }
     {
         if self.partial.is_empty() {
-            return answer_line(host, &mut self.graph, bytes, replies);
+            return answer_line(host, &mut self.graph, bytes, records, replies);
         }
         self.partial.extend_from_slice(bytes)?;
-        answer_line(host, &mut self.graph, &self.partial, replies)?;
+        answer_line(host, &mut self.graph, &self.partial, records, replies)?;
         self.partial.clear();
         Ok(())
     }
@@ -119,15 +127,18 @@ impl ScriptState {
     pub(crate) fn finish<P: Programs, W: Drain>(
         &mut self,
         host: &Host<'_, P>,
+        records: &mut VersionRecords<P::Record>,
         replies: &mut ReplyWriter<'_, W>,
     ) -> Result<(), SendError>
         requires ready { P.are_ready host.now.programs.now }
+        requires records { AreRecordsIn (P.is_record host.now.programs.now) self.old.state records.old }
         ensures emits { Emits replies.old replies.new
             (answer (P.trees host.now.programs.now) self.old.state self.old.partial).text result }
         ensures state { OnOk result (self.new.state ≡
             (answer (P.trees host.now.programs.now) self.old.state self.old.partial).state) }
+        ensures records { AreRecordsIn (P.is_record host.now.programs.now) self.old.state records.new }
     {
-        answer_line(host, &mut self.graph, &self.partial, replies)
+        answer_line(host, &mut self.graph, &self.partial, records, replies)
     }
 }
 
@@ -136,13 +147,16 @@ fn answer_line<P: Programs, W: Drain>(
     host: &Host<'_, P>,
     graph: &mut Option<OpenGraph>,
     line: &[u8],
+    records: &mut VersionRecords<P::Record>,
     replies: &mut ReplyWriter<'_, W>,
 ) -> Result<(), SendError>
     requires ready { P.are_ready host.now.programs.now }
+    requires records { AreRecordsIn (P.is_record host.now.programs.now) graph.old records.old }
     ensures emits { Emits replies.old replies.new
         (answer (P.trees host.now.programs.now) graph.old line.now).text result }
     ensures state { OnOk result
         (graph.new ≡ (answer (P.trees host.now.programs.now) graph.old line.now).state) }
+    ensures records { AreRecordsIn (P.is_record host.now.programs.now) graph.old records.new }
 {
     host.programs.begin_line();
     if line.is_empty() {
@@ -152,7 +166,7 @@ fn answer_line<P: Programs, W: Drain>(
         return host.refuse(BAD_LINE, replies);
     };
     match graph {
-        Some(open) => open.answer(host, command, replies),
+        Some(open) => open.answer(host, command, records, replies),
         None => open(host, graph, command, replies),
     }
 }

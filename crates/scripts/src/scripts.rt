@@ -1,5 +1,6 @@
 //! Scripts from their first byte to their last.
 ghost use Rattle.std.specs.Prelude.{◌≡◌, ◌<◌, [], length};
+ghost use Rattle.version_records.specs.VersionRecords.{HaveNone};
 ghost use Rattle.scripts.specs.inside.Progress.{at_start};
 ghost use Rattle.scripts.specs.Script.{input, taken_by_writer, RunsScript};
 
@@ -10,6 +11,7 @@ use crate::script_state::ScriptState;
 use devices::{Drain, Feed};
 use replies::{BLOCK, ReplyWriter};
 use std::alloc::Global;
+use version_records::VersionRecords;
 
 /// Reads a script to its end and writes the replies to its lines, in blocks of 64 KiB. Its runs are of
 /// these programs, numbered from 1. `Ok` says whether some run ended by a fault. With it, and with an
@@ -36,7 +38,8 @@ pub fn script<P: Programs, R: Feed, W: Drain>(
 {
     let host = Host { alloc, programs };
     let mut state = ScriptState::new(alloc);
-    let result = run_whole(&host, &mut state, reader, writer);
+    let mut records = VersionRecords::new(alloc);
+    let result = run_whole(&host, &mut state, &mut records, reader, writer);
     (result, state)
 }
 
@@ -44,11 +47,13 @@ pub fn script<P: Programs, R: Feed, W: Drain>(
 fn run_whole<P: Programs, R: Feed, W: Drain>(
     host: &Host<'_, P>,
     state: &mut ScriptState,
+    records: &mut VersionRecords<P::Record>,
     reader: &mut R,
     writer: &mut W,
 ) -> Result<bool, ScriptError>
     requires ready { P.are_ready host.now.programs.now }
     requires state { state.old ≡ at_start }
+    requires records { HaveNone records.old }
     ensures { RunsScript (P.trees host.now.programs.now)
         (input (R.bytes_read reader.old) (R.ended reader.old) (R.failures reader.old))
         (input (R.bytes_read reader.new) (R.ended reader.new) (R.failures reader.new))
@@ -61,7 +66,7 @@ fn run_whole<P: Programs, R: Feed, W: Drain>(
         writer,
         kept: &mut kept,
     };
-    let result = read_to_end(host, state, &mut block, reader, &mut replies);
+    let result = read_to_end(host, state, records, &mut block, reader, &mut replies);
     let ReplyWriter { writer, kept: _ } = replies;
     // No effect at run time. The proof reads what the writer holds from this use.
     let _ = &*writer;
@@ -73,12 +78,14 @@ fn run_whole<P: Programs, R: Feed, W: Drain>(
 fn read_to_end<P: Programs, R: Feed, W: Drain>(
     host: &Host<'_, P>,
     state: &mut ScriptState,
+    records: &mut VersionRecords<P::Record>,
     block: &mut [u8],
     reader: &mut R,
     replies: &mut ReplyWriter<'_, W>,
 ) -> Result<bool, ScriptError>
     requires ready { P.are_ready host.now.programs.now }
     requires state { state.old ≡ at_start }
+    requires records { HaveNone records.old }
     requires block { 0 < length block.old }
     requires kept { replies.old.kept ≡ [] }
     ensures same_writer { replies.new.writer ≡ replies.old.writer }
@@ -96,10 +103,10 @@ fn read_to_end<P: Programs, R: Feed, W: Drain>(
         if count == 0 {
             break;
         }
-        state.take(host, &block[..count], replies)?;
+        state.take(host, &block[..count], records, replies)?;
         replies.flush()?;
     }
-    state.finish(host, replies)?;
+    state.finish(host, records, replies)?;
     replies.flush()?;
     Ok(state.has_faulted())
 }

@@ -3,15 +3,16 @@
 ghost use Rattle.std.specs.Prelude.{[], ◌∷◌};
 ghost use Rattle.test_library.specs.inside.Programs.{empty_program};
 
-use algorithm_meaning::Outcome;
 use devices::Device;
 use flat_snapshot::Flat;
-use scripts::{Programs, ScriptError, script};
+use scripts::{ProgramRun, Programs, ScriptError, script};
 use std::alloc::{AllocError, Global};
 use std::io;
 use std::io::{Error, ErrorKind, Read, Write};
+use std::sync::Arc;
 use std::sync::atomic::{AtomicU64, Ordering};
 use test_helpers::{Checked, check};
+use version_records::Predecessor;
 
 /// One program, for whose runs there is never memory enough. It notes by how many workers a run was asked for.
 #[derive(Drop)]
@@ -24,7 +25,11 @@ impl StarvedProgram {
 }
 
 impl Programs for StarvedProgram {
+    type Record = u64;
+
     ghost trees = { λ _. empty_program ∷ [] };
+
+    ghost is_record = { λ _ _ _ _. Unit {0} };
 
     ghost are_ready = { λ _. Unit {0} };
 
@@ -36,10 +41,11 @@ impl Programs for StarvedProgram {
         &self,
         _alloc: Global,
         _index: usize,
-        _graph: &Flat,
+        _graph: &Arc<Flat>,
         _turns: u64,
         workers: u64,
-    ) -> Result<Outcome, AllocError> {
+        _former: Option<Predecessor<'_, u64>>,
+    ) -> Result<ProgramRun<u64>, AllocError> {
         self.0.store(workers, Ordering::SeqCst);
         Err(AllocError)
     }

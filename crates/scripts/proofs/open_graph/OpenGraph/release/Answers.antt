@@ -13,8 +13,8 @@ use Rattle.scripts.specs.inside.Stepping.{IsAnswered}
 use Rattle.scripts.proofs.StepLaws.{not_held}
 use Rattle.scripts.proofs.open_graph.OpenGraph.release.Goals as goal
 
-pub returns-in_default : goal.returns-in_default
-returns-in_default c =
+pub returns-in_default-clause-answered : goal.returns-in_default-clause-answered
+returns-in_default-clause-answered g c =
     let s = c.self.inside.versions.state in
     let number = c.args.number in
     let none : ticket_version s.open_tickets number ≡ None =

@@ -23,7 +23,7 @@ use vectors::Changes;
 ///
 /// The only error is out of memory. `scratch` is the caller's, and `states` has those of workers; both serve any apply
 /// after this one, whatever became of it.
-pub(crate) fn traverse<R: Threads + Sync, G: Gate + Sync>(
+pub fn traverse<R: Threads + Sync, G: Gate + Sync>(
     workers: &Workers<'_, R, G>,
     alloc: Global,
     apply: &Apply<'_>,

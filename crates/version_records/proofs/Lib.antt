@@ -1,0 +1,3 @@
+pub mod Changing
+pub mod Keeping
+pub mod Maps
