@@ -7,3 +7,4 @@ pub mod Former
 pub mod Known
 pub mod Beside
 pub mod Meant
+pub mod Showing

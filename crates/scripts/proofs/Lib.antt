@@ -7,3 +7,4 @@ pub mod RunReplies
 pub mod TextLaws
 pub mod TicketLaws
 pub mod StepLaws
+pub mod RecordLaws

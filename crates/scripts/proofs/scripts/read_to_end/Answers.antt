@@ -10,7 +10,7 @@ returns-in-Err-clause-runs g c =
     let old = input (g.R.Feed.bytes_read c.args.reader.now) (g.R.Feed.ended c.args.reader.now) (g.R.Feed.failures c.args.reader.now) in
     let now = input (g.R.Feed.bytes_read c.reads.reader) (g.R.Feed.ended c.reads.reader) (g.R.Feed.failures c.reads.reader) in
     let new = input (g.R.Feed.bytes_read c.read.new.self) (g.R.Feed.ended c.read.new.self) (g.R.Feed.failures c.read.new.self) in
-    read_fails (g.P.Programs.trees c.args.host.now.programs.now) old now c.args.replies.now c.reads.state c.reads.replies c.reads.invariant new c.requires.kept c.in-Err.ensures.err.0
+    read_fails (g.P.Programs.trees c.args.host.now.programs.now) old now c.args.replies.now c.reads.state c.reads.replies c.reads.invariant.reading new c.requires.kept c.in-Err.ensures.err.0
     c.in-Err.ensures.err.1
 
 pub take-requires : goal.take-requires
@@ -19,7 +19,8 @@ take-requires g c =
     let now = input (g.R.Feed.bytes_read c.reads.reader) (g.R.Feed.ended c.reads.reader) (g.R.Feed.failures c.reads.reader) in
     record {
       ready = c.requires.ready;
-      partial = reading_unended (g.P.Programs.trees c.args.host.now.programs.now) old now c.args.replies.now c.reads.state c.reads.replies c.reads.invariant;
+      records = c.reads.invariant.records;
+      partial = reading_unended (g.P.Programs.trees c.args.host.now.programs.now) old now c.args.replies.now c.reads.state c.reads.replies c.reads.invariant.reading;
     }
 
 pub returns-in_err-take-clause-runs : goal.returns-in_err-take-clause-runs
@@ -27,7 +28,7 @@ returns-in_err-take-clause-runs g c =
     let old = input (g.R.Feed.bytes_read c.args.reader.now) (g.R.Feed.ended c.args.reader.now) (g.R.Feed.failures c.args.reader.now) in
     let now = input (g.R.Feed.bytes_read c.reads.reader) (g.R.Feed.ended c.reads.reader) (g.R.Feed.failures c.reads.reader) in
     let new = input (g.R.Feed.bytes_read c.read.new.self) (g.R.Feed.ended c.read.new.self) (g.R.Feed.failures c.read.new.self) in
-    let fails = lines_fail (g.P.Programs.trees c.args.host.now.programs.now) old now c.args.replies.now c.reads.state c.reads.replies c.reads.invariant new
+    let fails = lines_fail (g.P.Programs.trees c.args.host.now.programs.now) old now c.args.replies.now c.reads.state c.reads.replies c.reads.invariant.reading new
     (take c.in-Ok.count c.read.new.buffer) c.in-Ok.ensures.bytes_read c.in-Ok.ensures.no_failure c.take.new.replies c.in_err-take.field-0.0 c.requires.kept c.in_err-take.ensures.emits in
     runs_failed _ _ _ _ _ _ _ c.from_residual.ensures.1 fails
 
@@ -36,16 +37,19 @@ reads-preserved g c =
     let old = input (g.R.Feed.bytes_read c.args.reader.now) (g.R.Feed.ended c.args.reader.now) (g.R.Feed.failures c.args.reader.now) in
     let now = input (g.R.Feed.bytes_read c.reads.reader) (g.R.Feed.ended c.reads.reader) (g.R.Feed.failures c.reads.reader) in
     let new = input (g.R.Feed.bytes_read c.read.new.self) (g.R.Feed.ended c.read.new.self) (g.R.Feed.failures c.read.new.self) in
-    reading_goes_on (g.P.Programs.trees c.args.host.now.programs.now) old now c.args.replies.now c.reads.state c.reads.replies c.reads.invariant new
+    record {
+      records = c.in_ok-take.ensures.records;
+      reading = reading_goes_on (g.P.Programs.trees c.args.host.now.programs.now) old now c.args.replies.now c.reads.state c.reads.replies c.reads.invariant.reading new
     (take c.in-Ok.count c.read.new.buffer) c.in-Ok.ensures.bytes_read c.in-Ok.ensures.no_failure c.take.new.replies c.in_ok-take.ensures.emits c.take.new.self c.in_ok-take.ensures.reading
-    c.flush.new.self c.in_ok-flush.ensures.emits c.in_ok-flush.ensures.empty
+    c.flush.new.self c.in_ok-flush.ensures.emits c.in_ok-flush.ensures.empty;
+    }
 
 pub returns-in_err-flush-clause-runs : goal.returns-in_err-flush-clause-runs
 returns-in_err-flush-clause-runs g c =
     let old = input (g.R.Feed.bytes_read c.args.reader.now) (g.R.Feed.ended c.args.reader.now) (g.R.Feed.failures c.args.reader.now) in
     let now = input (g.R.Feed.bytes_read c.reads.reader) (g.R.Feed.ended c.reads.reader) (g.R.Feed.failures c.reads.reader) in
     let new = input (g.R.Feed.bytes_read c.read.new.self) (g.R.Feed.ended c.read.new.self) (g.R.Feed.failures c.read.new.self) in
-    let fails = flush_fails (g.P.Programs.trees c.args.host.now.programs.now) old now c.args.replies.now c.reads.state c.reads.replies c.reads.invariant new
+    let fails = flush_fails (g.P.Programs.trees c.args.host.now.programs.now) old now c.args.replies.now c.reads.state c.reads.replies c.reads.invariant.reading new
     (take c.in-Ok.count c.read.new.buffer) c.in-Ok.ensures.bytes_read c.in-Ok.ensures.no_failure c.take.new.replies c.in_ok-take.ensures.emits c.flush.new.self c.in_err-flush.field-0.0 c.requires.kept
     c.in_err-flush.ensures.emits in
     runs_failed _ _ _ _ _ _ _ c.from_residual-in_err-flush.ensures.1 fails
@@ -60,7 +64,7 @@ returns-in_err-finish-clause-runs g c =
     let room : 0 < length c.read.new.buffer = omega (arith, c.requires.block, c.reads.auto.block, c.read.auto.buffer) in
     let at_end : g.R.Feed.ended c.read.new.self ≡ true = c.in-Ok.ensures.ended ∙ or_right _ _ (and_from _ _ (eq-eqb c.in-Ok.count 0 c.if-count-eq0.true) (lt-ltb 0 (length c.read.new.buffer) room)) in
     let fails = finish_fails
-    (g.P.Programs.trees c.args.host.now.programs.now) old now c.args.replies.now c.reads.state c.reads.replies c.reads.invariant new nothing at_end c.in-Ok.ensures.no_failure c.finish.new.replies
+    (g.P.Programs.trees c.args.host.now.programs.now) old now c.args.replies.now c.reads.state c.reads.replies c.reads.invariant.reading new nothing at_end c.in-Ok.ensures.no_failure c.finish.new.replies
     c.in_err-finish.field-0.0 c.requires.kept c.in_err-finish.ensures.emits in
     runs_failed _ _ _ _ _ _ _ c.from_residual-in_err-finish.ensures.1 fails
 
@@ -74,7 +78,7 @@ returns-in_err-flush-2-clause-runs g c =
     let room : 0 < length c.read.new.buffer = omega (arith, c.requires.block, c.reads.auto.block, c.read.auto.buffer) in
     let at_end : g.R.Feed.ended c.read.new.self ≡ true = c.in-Ok.ensures.ended ∙ or_right _ _ (and_from _ _ (eq-eqb c.in-Ok.count 0 c.if-count-eq0.true) (lt-ltb 0 (length c.read.new.buffer) room)) in
     let fails = last_flush_fails
-    (g.P.Programs.trees c.args.host.now.programs.now) old now c.args.replies.now c.reads.state c.reads.replies c.reads.invariant new nothing at_end c.in-Ok.ensures.no_failure c.finish.new.replies
+    (g.P.Programs.trees c.args.host.now.programs.now) old now c.args.replies.now c.reads.state c.reads.replies c.reads.invariant.reading new nothing at_end c.in-Ok.ensures.no_failure c.finish.new.replies
     c.in_ok-finish.ensures.emits c.flush-2.new.self c.in_err-flush-2.field-0.0 c.requires.kept c.in_err-flush-2.ensures.emits in
     runs_failed _ _ _ _ _ _ _ c.from_residual-in_err-flush-2.ensures.1 fails
 
@@ -87,6 +91,6 @@ returns-clause-runs g c =
     ∙ ap (λ n. g.R.Feed.bytes_read c.reads.reader ++ take n c.read.new.buffer) c.if-count-eq0.true ∙ append-nil (g.R.Feed.bytes_read c.reads.reader) in
     let room : 0 < length c.read.new.buffer = omega (arith, c.requires.block, c.reads.auto.block, c.read.auto.buffer) in
     let at_end : g.R.Feed.ended c.read.new.self ≡ true = c.in-Ok.ensures.ended ∙ or_right _ _ (and_from _ _ (eq-eqb c.in-Ok.count 0 c.if-count-eq0.true) (lt-ltb 0 (length c.read.new.buffer) room)) in
-    script_ends (g.P.Programs.trees c.args.host.now.programs.now) old now c.args.replies.now c.reads.state c.reads.replies c.reads.invariant new nothing at_end c.in-Ok.ensures.no_failure
+    script_ends (g.P.Programs.trees c.args.host.now.programs.now) old now c.args.replies.now c.reads.state c.reads.replies c.reads.invariant.reading new nothing at_end c.in-Ok.ensures.no_failure
     c.finish.new.replies c.in_ok-finish.ensures.emits c.flush-2.new.self c.requires.kept c.in_ok-flush-2.ensures.empty c.in_ok-flush-2.ensures.emits _ c.in_ok-finish.ensures.state _
     c.has_faulted.ensures

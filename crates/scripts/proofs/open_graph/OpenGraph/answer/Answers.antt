@@ -2,6 +2,7 @@
 use Rattle.std.proofs.Common.{ap}
 use Rattle.scripts.specs.declared.commands.Command.{Command}
 use Rattle.scripts.specs.Replies.{on_open}
+use Rattle.version_records.proofs.Keeping.{AreRecordsOf-lost}
 use Rattle.replies.proofs.SendingLaws.{emits_as, emits_nothing}
 use Rattle.scripts.proofs.StepLaws.{emits_step, leaves_step}
 use Rattle.scripts.proofs.open_graph.OpenGraph.answer.Goals as goal
@@ -24,12 +25,12 @@ returns-in-Grow-clause-emits g c =
 pub returns-in-Commit-clause-emits : goal.returns-in-Commit-clause-emits
 returns-in-Commit-clause-emits g c =
     emits_step _ _ _ _ _ c.commit.result c.reply.result (ap (λ (k : Command). on_open
-    (g.P.Programs.trees c.args.host.now.programs.now) c.args.self.now k) c.in-Commit.is) c.commit.ensures c.reply.ensures.sent c.reply.ensures.unsent
+    (g.P.Programs.trees c.args.host.now.programs.now) c.args.self.now k) c.in-Commit.is) c.commit.ensures.answered c.reply.ensures.sent c.reply.ensures.unsent
 
 pub returns-in-Commit-clause-state : goal.returns-in-Commit-clause-state
 returns-in-Commit-clause-state g c =
     leaves_step _ _ _ _ _ c.commit.result c.reply.result (ap (λ (k : Command). on_open
-    (g.P.Programs.trees c.args.host.now.programs.now) c.args.self.now k) c.in-Commit.is) c.commit.ensures c.reply.ensures.unsent
+    (g.P.Programs.trees c.args.host.now.programs.now) c.args.self.now k) c.in-Commit.is) c.commit.ensures.answered c.reply.ensures.unsent
 
 pub returns-in-Hold-clause-emits : goal.returns-in-Hold-clause-emits
 returns-in-Hold-clause-emits g c =
@@ -44,12 +45,12 @@ returns-in-Hold-clause-state g c =
 pub returns-in-Release-clause-emits : goal.returns-in-Release-clause-emits
 returns-in-Release-clause-emits g c =
     emits_step _ _ _ _ _ c.release.result c.reply-in-Release.result (ap (λ (k : Command). on_open
-    (g.P.Programs.trees c.args.host.now.programs.now) c.args.self.now k) c.in-Release.is) c.release.ensures c.reply-in-Release.ensures.sent c.reply-in-Release.ensures.unsent
+    (g.P.Programs.trees c.args.host.now.programs.now) c.args.self.now k) c.in-Release.is) c.release.ensures.answered c.reply-in-Release.ensures.sent c.reply-in-Release.ensures.unsent
 
 pub returns-in-Release-clause-state : goal.returns-in-Release-clause-state
 returns-in-Release-clause-state g c =
     leaves_step _ _ _ _ _ c.release.result c.reply-in-Release.result (ap (λ (k : Command). on_open
-    (g.P.Programs.trees c.args.host.now.programs.now) c.args.self.now k) c.in-Release.is) c.release.ensures c.reply-in-Release.ensures.unsent
+    (g.P.Programs.trees c.args.host.now.programs.now) c.args.self.now k) c.in-Release.is) c.release.ensures.answered c.reply-in-Release.ensures.unsent
 
 pub returns-in-Edges-clause-emits : goal.returns-in-Edges-clause-emits
 returns-in-Edges-clause-emits g c =
@@ -58,3 +59,11 @@ returns-in-Edges-clause-emits g c =
 pub returns-in-Run-clause-emits : goal.returns-in-Run-clause-emits
 returns-in-Run-clause-emits g c =
     emits_as _ _ _ _ _ c.run_numbered.ensures.emits (ap (λ (k : Command). (on_open (g.P.Programs.trees c.args.host.now.programs.now) c.args.self.now k).text) c.in-Run.is)
+
+pub returns-in-Commit-clause-records : goal.returns-in-Commit-clause-records
+returns-in-Commit-clause-records g c =
+    AreRecordsOf-lost (g.P.Programs.is_record c.args.host.now.programs.now) c.args.self.now.versions c.args.records.now c.commit.new.records c.commit.ensures.records c.requires.records
+
+pub returns-in-Release-clause-records : goal.returns-in-Release-clause-records
+returns-in-Release-clause-records g c =
+    AreRecordsOf-lost (g.P.Programs.is_record c.args.host.now.programs.now) c.args.self.now.versions c.args.records.now c.release.new.records c.release.ensures.records c.requires.records
