@@ -38,10 +38,14 @@ use Rattle.shared_graph.specs.contracts.entry.Entry as entry
 use Rattle.shared_graph.specs.contracts.history_prefix.HistoryPrefix as history_prefix
 use Rattle.shared_graph.specs.contracts.publisher.Grows as grows
 use Rattle.shared_graph.specs.contracts.publisher.GrowsProtocolShownOptionShown.TheImpl as grows_rule
+use Rattle.shared_graph.specs.contracts.newest_version.NewestVersion as newest_version
 use Rattle.shared_graph.specs.contracts.reader.Reader as reader
 use Rattle.shared_graph.specs.contracts.reader.Reader.TheInside as reader_inside
+use Rattle.shared_graph.specs.contracts.recent_edges.RecentEdges as recent_edges
+use Rattle.shared_graph.proofs.recent_edges.RecentEdges.TheSendSync.{the_send as recent_send, the_sync as recent_sync}
 use Rattle.shared_graph.specs.contracts.shown.Shown as shown
 use Rattle.shared_graph.specs.contracts.shown.Shown.TheInside as shown_inside
+use Rattle.shared_graph.specs.contracts.snapshot.Snapshot as snapshot
 use Rattle.shared_graph.specs.declared.naming.Naming as naming
 
 small_send : IsSend u32
@@ -68,13 +72,31 @@ seen_send = seen_the.the_send entry.the_row u64 law.the_row law_rule.ghosts
 seen_sync : IsSync (seen.the_row entry.the_row u64 law.the_row law_rule.ghosts)
 seen_sync = seen_the.the_sync entry.the_row u64 law.the_row law_rule.ghosts
 
+recent_arc_send : IsSend (arc.the_row recent_edges.the_row heap.the_row alloc.ghosts)
+recent_arc_send = Arc-send recent_edges.the_row recent_send recent_sync
+
+recent_arc_sync : IsSync (arc.the_row recent_edges.the_row heap.the_row alloc.ghosts)
+recent_arc_sync = Arc-sync recent_edges.the_row recent_send recent_sync
+
+snapshot_send : IsSend snapshot.the_row
+snapshot_send = declared_send snapshot.the_type (number_send, (graph_arc_send, tt))
+
+snapshot_sync : IsSync snapshot.the_row
+snapshot_sync = declared_sync snapshot.the_type (number_sync, (graph_arc_sync, tt))
+
+newest_send : IsSend newest_version.the_row
+newest_send = declared_send newest_version.the_type (snapshot_send, (recent_arc_send, tt))
+
+newest_sync : IsSync newest_version.the_row
+newest_sync = declared_sync newest_version.the_type (snapshot_sync, (recent_arc_sync, tt))
+
 shown_send : IsSend shown.the_row
 shown_send = view_send _ _ _ _ _ (declared_send shown_inside.the_type
-    (number_send, (graph_arc_send, (small_send, (number_send, (number_send, (seen_send, tt)))))))
+    (newest_send, (small_send, (number_send, (number_send, (seen_send, tt))))))
 
 shown_sync : IsSync shown.the_row
 shown_sync = view_sync _ _ _ _ _ (declared_sync shown_inside.the_type
-    (number_sync, (graph_arc_sync, (small_sync, (number_sync, (number_sync, (seen_sync, tt)))))))
+    (newest_sync, (small_sync, (number_sync, (number_sync, (seen_sync, tt))))))
 
 abbrev ShownWriter : RattleType
 ShownWriter = writer.the_row shown.the_row shown.the_row (option.the_row shown.the_row) grows.the_row heap.the_row shown.the_row

@@ -7,3 +7,5 @@ pub mod Steps
 pub mod Crossing
 pub mod Versions
 pub mod Counted
+pub mod Recent
+pub mod Newest

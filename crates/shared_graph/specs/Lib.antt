@@ -1,4 +1,5 @@
 pub mod Histories
+pub mod Differences
 pub mod Holding
 pub mod Outcome
 pub mod inside

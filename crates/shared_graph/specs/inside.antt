@@ -4,3 +4,4 @@ pub mod Histories
 pub mod Book
 pub mod Publishing
 pub mod Locked
+pub mod Recent

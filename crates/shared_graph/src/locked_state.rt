@@ -1,21 +1,23 @@
 //! The state under the lock: the versions and the log.
 
-ghost use Rattle.std.specs.Prelude.{◌≡◌, [], IfOk, IfErr, true};
+ghost use Rattle.std.specs.Prelude.{◌≡◌, ◌++◌, [], IfOk, IfErr, true};
 ghost use Rattle.version_list.specs.declared.step.Step.TheVariants.{Commit, Acquire, Release, Trim};
 ghost use Rattle.version_list.specs.declared.step.Reply.TheVariants as reply;
 ghost use Rattle.std.specs.Arc.{arc_value};
-ghost use Rattle.version_list.specs.Machine.{opened, is_open};
+ghost use Rattle.version_list.specs.Machine.{committed_by, opened, is_open};
 ghost use Rattle.version_list.specs.Prepared.{IsPrepared, IsPreparedAcquire};
 ghost use Rattle.version_list.specs.Timeline.{beginning};
 ghost use Rattle.shared_graph.specs.declared.error.SharedError.TheVariants.{NoMemory};
-ghost use Rattle.shared_graph.specs.Histories.{state_at, IsNewest};
+ghost use Rattle.shared_graph.specs.Histories.{state_at};
 ghost use Rattle.shared_graph.specs.Holding.{HoldsVersion};
 ghost use Rattle.shared_graph.specs.inside.Locked.{IsTimelineOf};
+ghost use Rattle.shared_graph.specs.inside.Recent.{AreRecent, IsNewestVersion};
 ghost use Rattle.shared_graph.specs.Outcome.{Answers, AnswersRelease, Refuses};
 
 use crate::error::SharedError;
 use crate::held::{Held, Unreleased};
 use crate::naming::Naming;
+use crate::newest_version::NewestVersion;
 use crate::published_log::PublishedLog;
 use crate::reader::Reader;
 use crate::snapshot::Snapshot;
@@ -85,7 +87,7 @@ impl<J: Naming, R: Wait + Drop> LockedState<J, R> {
         ensures log { IfOk result (λ _. me.new.shown ≡ self.new) }
         ensures err { IfErr result (λ _. self.new ≡ self.old) }
     {
-        let (prepared, graph) = prepare_commit(
+        let (prepared, newest) = prepare_commit(
             &mut self.versions,
             &self.published_log,
             rt,
@@ -93,8 +95,7 @@ impl<J: Naming, R: Wait + Drop> LockedState<J, R> {
             me,
             batch,
         )?;
-        self.published_log
-            .record(rt, me, &prepared.done, prepared.number, graph);
+        self.published_log.record(rt, me, &prepared.done, newest);
         Ok(self.versions.finish(prepared))
     }
 
@@ -124,8 +125,7 @@ impl<J: Naming, R: Wait + Drop> LockedState<J, R> {
             step: Step::Acquire(which),
             reply: Reply::Ticket(prepared.ticket.number, prepared.version),
         };
-        self.published_log
-            .record(rt, me, &done, newest.number, newest.graph);
+        self.published_log.record(rt, me, &done, newest);
         let number = prepared.version;
         let (ticket, _) = self.versions.finish_acquire(prepared);
         Ok(Held::new(ticket, Snapshot { number, graph }, me.history_prefix()))
@@ -159,8 +159,7 @@ impl<J: Naming, R: Wait + Drop> LockedState<J, R> {
             step: Step::Release(ticket.number),
             reply: Reply::Released,
         };
-        self.published_log
-            .record(rt, me, &done, newest.number, newest.graph);
+        self.published_log.record(rt, me, &done, newest);
         self.versions.release(ticket).unwrap();
         held.into_snapshot();
         Ok(())
@@ -177,17 +176,18 @@ impl<J: Naming, R: Wait + Drop> LockedState<J, R> {
             Ok(prepared) => prepared,
             Err(error) => return Err(self.published_log.refuse(rt, me, error)),
         };
-        let Snapshot { number, graph } = self.published_log.newest()?;
+        let newest = self.published_log.newest()?;
         let done = Done {
             step: Step::Trim,
             reply: Reply::Trimmed(prepared.count),
         };
-        self.published_log.record(rt, me, &done, number, graph);
+        self.published_log.record(rt, me, &done, newest);
         Ok(self.versions.finish_trim(prepared))
     }
 }
 
-// Prepares the commit of a batch, and its graph to be published. A refusal is shown to the reader.
+// Prepares the commit of a batch, and the version that it makes, to be published. A refusal is shown
+// to the reader.
 fn prepare_commit<J: Naming, R: Wait + Drop, T: Threads + Wait + Sync>(
     versions: &mut Versions,
     published_log: &PublishedLog<J, R>,
@@ -195,11 +195,14 @@ fn prepare_commit<J: Naming, R: Wait + Drop, T: Threads + Wait + Sync>(
     alloc: Global,
     me: &mut Reader<J>,
     batch: Batch,
-) -> Result<(Prepared, Arc<Graph>), SharedError>
+) -> Result<(Prepared, NewestVersion), SharedError>
     requires { IsTimelineOf (opened J.vertices J.room) published_log.now versions.old }
     ensures timeline { IsTimelineOf (opened J.vertices J.room) published_log.now versions.new }
     ensures prepared { IfOk result (λ r. IsPrepared versions.new batch r.0) }
-    ensures graph { IfOk result (λ r. arc_value r.1 ≡ r.0.graph) }
+    ensures number { IfOk result (λ r. r.1.snapshot.number ≡ r.0.number) }
+    ensures graph { IfOk result (λ r. arc_value r.1.snapshot.graph ≡ r.0.graph) }
+    ensures recent { IfOk result (λ r. AreRecent ((state_at (opened J.vertices J.room) published_log.now).batches ++ committed_by r.0.done.step)
+        (arc_value r.1.recent)) }
     ensures same { IfOk result (λ _. me.new ≡ me.old) }
     ensures err { IfErr result (λ e. Refuses (opened J.vertices J.room) me.old (Commit batch) e me.new) }
 {
@@ -209,7 +212,10 @@ fn prepare_commit<J: Naming, R: Wait + Drop, T: Threads + Wait + Sync>(
         Err(error) => return Err(published_log.refuse(rt, me, error)),
     };
     let graph = Arc::new(alloc, prepared.graph.clone()?)?;
-    Ok((prepared, graph))
+    let number = prepared.number;
+    let recent = published_log.recent_after(alloc, number, &prepared.done.step)?;
+    let snapshot = Snapshot { number, graph };
+    Ok((prepared, NewestVersion { snapshot, recent }))
 }
 
 // Prepares the hold of a version, the newest version to be published again, and the held graph once
@@ -221,11 +227,11 @@ fn prepare_hold<J: Naming, R: Wait + Drop, T: Wait>(
     alloc: Global,
     me: &mut Reader<J>,
     which: Which,
-) -> Result<(PreparedAcquire, Snapshot, Arc<Graph>), SharedError>
+) -> Result<(PreparedAcquire, NewestVersion, Arc<Graph>), SharedError>
     requires { IsTimelineOf (opened J.vertices J.room) published_log.now versions.old }
     ensures timeline { IsTimelineOf (opened J.vertices J.room) published_log.now versions.new }
     ensures prepared { IfOk result (λ r. IsPreparedAcquire versions.new which r.0) }
-    ensures newest { IfOk result (λ r. IsNewest (state_at (opened J.vertices J.room) published_log.now) r.1.number (arc_value r.1.graph)) }
+    ensures newest { IfOk result (λ r. IsNewestVersion (state_at (opened J.vertices J.room) published_log.now) r.1) }
     ensures graph { IfOk result (λ r. arc_value r.2 ≡ r.0.graph) }
     ensures same { IfOk result (λ _. me.new ≡ me.old) }
     ensures err { IfErr result (λ e. Refuses (opened J.vertices J.room) me.old (Acquire which) e me.new) }

@@ -1,13 +1,15 @@
 //! The shared history as the lock keeps it: what was published, and how many steps each reader made.
 
-ghost use Rattle.std.specs.Prelude.{◌≡◌, ◌<◌, ◌≤◌, ◌+◌, ◌++◌, ◌∷◌, [], length, slice_index, IfOk};
+ghost use Rattle.std.specs.Prelude.{◌≡◌, ◌<◌, ◌≤◌, ◌+◌, ◌++◌, ◌∷◌, [], true, length, slice_index, IfOk};
 ghost use Rattle.std.specs.Arc.{arc_value};
 ghost use mathlib.Core.List.{IsPrefix};
-ghost use Rattle.version_list.specs.Machine.{opened, state_after};
+ghost use Rattle.tree_batch.specs.Digraph.{is_vertex_count};
+ghost use Rattle.version_list.specs.Machine.{committed_by, newest_number, opened, state_after};
 ghost use Rattle.version_list.specs.Timeline.{IsLegal};
 ghost use Rattle.shared_graph.specs.Histories.{own, steps_of, state_at, IsNewest, HasMade, fresh_readers};
 ghost use Rattle.shared_graph.specs.inside.Histories.{MayFollow};
 ghost use Rattle.shared_graph.specs.inside.Locked.{AreCounts, ShowsRefusal};
+ghost use Rattle.shared_graph.specs.inside.Recent.{AreRecent, IsNewestVersion};
 ghost use Rattle.shared_graph.specs.inside.Refusal.{from_version};
 
 use crate::book::{Book, Opening};
@@ -15,15 +17,17 @@ use crate::error::SharedError;
 use crate::history_prefix::HistoryPrefix;
 use crate::naming::Naming;
 use crate::never::never;
+use crate::newest_version::NewestVersion;
 use crate::publisher::Publisher;
 use crate::reader::Reader;
+use crate::recent_edges::RecentEdges;
 use crate::shown::Shown;
 use crate::snapshot::Snapshot;
 use std::alloc::{AllocError, Global};
 use std::marker::Model;
 use std::sync::{Arc, Wait};
 use tree_batch::Graph;
-use version_list::{Done, VersionError};
+use version_list::{Done, Step, VersionError};
 
 /// What a history begins with: so many vertices, and room for so many entries.
 #[derive(Clone, Copy)]
@@ -57,7 +61,8 @@ impl<J: Naming, R: Wait + Drop> Drop for PublishedLog<J, R> {
 }
 
 impl<J: Naming, R: Wait + Drop> Model for PublishedLog<J, R> {
-    ghost use Rattle.std.specs.Prelude.{◌≡◌, List};
+    ghost use Rattle.std.specs.Prelude.{◌≡◌, true, List};
+    ghost use Rattle.tree_batch.specs.Digraph.{is_vertex_count};
     ghost use Rattle.version_list.specs.Machine.{opened};
     ghost use Rattle.shared_graph.specs.declared.entry.Entry.{Entry};
     ghost use Rattle.shared_graph.specs.inside.Locked.{AreCounts};
@@ -67,7 +72,8 @@ impl<J: Naming, R: Wait + Drop> Model for PublishedLog<J, R> {
     ghost view = { λ l. l.history_prefix };
 
     ghost invariant = { λ l. (opened J.vertices J.room ≡ opened l.vertices l.room) × AreCounts l.history_prefix l.counts.items
-        × (l.publisher ≡ record { book = J.book; base = opened J.vertices J.room; log = l.history_prefix }) };
+        × (l.publisher ≡ record { book = J.book; base = opened J.vertices J.room; log = l.history_prefix })
+        × (is_vertex_count l.vertices ≡ true) };
 }
 
 impl<J: Naming, R: Wait + Drop> PublishedLog<J, R> {
@@ -85,6 +91,7 @@ impl<J: Naming, R: Wait + Drop> PublishedLog<J, R> {
     ) -> Result<(PublishedLog<J, R>, Vec<Reader<J>>, Reader<J>), AllocError>
         requires book { opening ≡ J.book }
         requires base { opened J.vertices J.room ≡ opened start.vertices start.room }
+        requires count { is_vertex_count start.vertices ≡ true }
         requires newest { IsNewest (state_at (opened J.vertices J.room) []) 0 (arc_value graph) }
         requires readers { (0 < readers) × (readers ≤ 64) }
         ensures published_log { IfOk result (λ r. r.0 ≡ []) }
@@ -92,7 +99,10 @@ impl<J: Naming, R: Wait + Drop> PublishedLog<J, R> {
     {
         let HistoryStart { vertices, room } = start;
         let (book, history_prefix) = opening.named::<J>();
-        let shown = Shown::new(vertices, room, 0, graph, &history_prefix);
+        let recent = Arc::new(alloc, RecentEdges::none_since(alloc, 0))?;
+        let snapshot = Snapshot { number: 0, graph };
+        let newest = NewestVersion { snapshot, recent };
+        let shown = Shown::new(vertices, room, newest, &history_prefix);
         let mut publisher = Publisher::new(alloc, rt, shown, readers)?;
         let others = fresh_readers(alloc, &mut publisher, &history_prefix, readers - 1)?;
         let last = Reader::new(readers as u64 - 1, publisher.reader()?, &history_prefix);
@@ -110,11 +120,29 @@ impl<J: Naming, R: Wait + Drop> PublishedLog<J, R> {
 
     /// The newest version, which is the one that is published.
     ///
-    /// Errors: `AllocError` where the graph cannot be shared once more.
-    pub(crate) fn newest(&self) -> Result<Snapshot, AllocError>
-        ensures { IfOk result (λ s. IsNewest (state_at (opened J.vertices J.room) self.now) s.number (arc_value s.graph)) }
+    /// Errors: `AllocError` where it cannot be shared once more.
+    pub(crate) fn newest(&self) -> Result<NewestVersion, AllocError>
+        ensures { IfOk result (IsNewestVersion (state_at (opened J.vertices J.room) self.now)) }
     {
-        self.publisher.published().snapshot()
+        self.publisher.published().newest_version()
+    }
+
+    /// The edges that the last commits name after one more step, which makes the version of this
+    /// number if it commits. The only error is out of memory.
+    pub(crate) fn recent_after(
+        &self,
+        alloc: Global,
+        version: u64,
+        step: &Step,
+    ) -> Result<Arc<RecentEdges>, AllocError>
+        requires { newest_number (state_at (opened J.vertices J.room) self.now) + 1 ≡ version }
+        ensures { IfOk result (λ r. AreRecent ((state_at (opened J.vertices J.room) self.now).batches ++ committed_by step.now) (arc_value r)) }
+    {
+        let recent = self
+            .publisher
+            .published()
+            .recent_after(alloc, version, step)?;
+        Ok(Arc::new(alloc, recent)?)
     }
 
     /// What a hold needs before its step: the newest version, to be published again, and the held graph once more.
@@ -124,8 +152,8 @@ impl<J: Naming, R: Wait + Drop> PublishedLog<J, R> {
         &self,
         alloc: Global,
         graph: &Graph,
-    ) -> Result<(Snapshot, Arc<Graph>), AllocError>
-        ensures newest { IfOk result (λ r. IsNewest (state_at (opened J.vertices J.room) self.now) r.0.number (arc_value r.0.graph)) }
+    ) -> Result<(NewestVersion, Arc<Graph>), AllocError>
+        ensures newest { IfOk result (λ r. IsNewestVersion (state_at (opened J.vertices J.room) self.now) r.0) }
         ensures graph { IfOk result (λ r. arc_value r.1 ≡ graph.now) }
     {
         let newest = self.newest()?;
@@ -133,18 +161,17 @@ impl<J: Naming, R: Wait + Drop> PublishedLog<J, R> {
         Ok((newest, graph))
     }
 
-    /// Puts a reader's step at the end of the history and publishes the newest version after it, whose
-    /// number and graph these are. Takes no memory; waits for readers.
+    /// Puts a reader's step at the end of the history and publishes the newest version after it. Takes
+    /// no memory; waits for readers.
     pub(crate) fn record<T: Wait>(
         &mut self,
         rt: &T,
         me: &mut Reader<J>,
         done: &Done,
-        number: u64,
-        graph: Arc<Graph>,
+        newest: NewestVersion,
     )
         requires follows { MayFollow (opened J.vertices J.room) self.old done.now }
-        requires newest { IsNewest (state_after (state_at (opened J.vertices J.room) self.old) done.now.step) number (arc_value graph) }
+        requires newest { IsNewestVersion (state_after (state_at (opened J.vertices J.room) self.old) done.now.step) newest }
         ensures log { self.new ≡ self.old ++ record { by = me.old.number; done = done.now } ∷ [] }
         ensures made { HasMade (opened J.vertices J.room) me.old done.now.step done.now.reply me.new }
         ensures shown { me.new.shown ≡ self.new }
@@ -157,13 +184,7 @@ impl<J: Naming, R: Wait + Drop> PublishedLog<J, R> {
             me,
             done,
         );
-        let shown = Shown::new(
-            self.vertices,
-            self.room,
-            number,
-            graph,
-            &self.history_prefix,
-        );
+        let shown = Shown::new(self.vertices, self.room, newest, &self.history_prefix);
         self.publisher.publish(shown);
         me.has_made(&self.history_prefix);
     }

@@ -1,22 +1,28 @@
 //! Readers, and what they tell one another.
 
-ghost use Rattle.std.specs.Prelude.{◌≡◌, ◌<◌, ◌+◌, ◌^◌, ◌++◌, ◌∷◌, [], length, IfOk, OnErr, Some};
+ghost use Rattle.std.specs.Prelude.{◌≡◌, ◌<◌, ◌+◌, ◌^◌, ◌++◌, ◌∷◌, [], true, length, IfOk, IfSome, MatchBool, OnErr, Some};
 ghost use Rattle.std.specs.Arc.{arc_value};
 ghost use mathlib.Core.List.{IsPrefix};
 ghost use Rattle.left_right.specs.Sides.{view as view_of};
+ghost use Rattle.tree_batch.specs.Digraph.{is_vertex_count};
 ghost use Rattle.version_list.specs.Machine.{opened};
 ghost use Rattle.version_list.specs.Timeline.{IsLegal};
+ghost use Rattle.shared_graph.specs.Differences.{AreEdgesSince};
 ghost use Rattle.shared_graph.specs.Histories.{steps_of, own, state_at, IsNewest, fresh_reader, Shows};
 ghost use Rattle.shared_graph.specs.inside.Publishing.{Knows};
+ghost use Rattle.shared_graph.specs.inside.Recent.{AreRecent};
 
 use crate::error::LatestError;
 use crate::history_prefix::HistoryPrefix;
 use crate::naming::Naming;
 use crate::publisher::{Seeing, ShownReader};
+use crate::recent_edges::RecentEdges;
 use crate::shown::Shown;
 use crate::snapshot::Snapshot;
 use core::mem::replace_with;
+use std::alloc::Global;
 use std::marker::Model;
+use std::sync::Arc;
 
 /// One of the readers of a shared graph, and the one by whose name its owner commits and holds.
 /// Contracts see it as the history that it shows, of accepted steps with their replies and the
@@ -87,14 +93,68 @@ impl<J: Naming> Reader<J> {
         ensures err { OnErr result (self.new ≡ self.old) }
         ensures legal { IsLegal (opened J.vertices J.room) (steps_of self.new.shown) }
     {
-        self.history_prefix.len();
-        let (snapshot, history_prefix) = replace_with(
-            &mut self.read,
-            &self.history_prefix,
-            read_shown::<J>,
-        )?;
-        self.history_prefix = history_prefix;
+        let (snapshot, _) = self.newest(false)?;
         Ok(snapshot)
+    }
+
+    /// The newest version that is published, as [`Reader::latest`] gives it, and the ends of the edges
+    /// in which it may differ from an earlier version: those that the batches since then name,
+    /// ascending by source and then by destination, each once. In place of the edges it is `None` if
+    /// there is no such version, if a batch since then asks for a number of vertices, if the batches
+    /// since then are too many for the edges to be kept, or if memory is refused for them. Takes no
+    /// lock and waits for nobody. It takes the time of a sort of at most 1,024 edges.
+    ///
+    /// The history shown afterwards is as after [`Reader::latest`], and so are the errors.
+    ///
+    /// # Example
+    ///
+    /// ```
+    /// let (snapshot, edges) = reader.latest_since(alloc, version)?;
+    /// ```
+    pub fn latest_since(
+        &mut self,
+        alloc: Global,
+        version: u64,
+    ) -> Result<(Snapshot, Option<Vec<(u32, u32)>>), LatestError>
+        ensures shows { IfOk result (λ r. Shows (opened J.vertices J.room) self.old self.new) }
+        ensures newest { IfOk result (λ r. IsNewest (state_at (opened J.vertices J.room) self.new.shown) r.0.number (arc_value r.0.graph)) }
+        ensures edges { IfOk result (λ r. IfSome r.1 (λ edges. AreEdgesSince (state_at (opened J.vertices J.room) self.new.shown) version edges.items)) }
+        ensures err { OnErr result (self.new ≡ self.old) }
+        ensures legal { IsLegal (opened J.vertices J.room) (steps_of self.new.shown) }
+    {
+        let (snapshot, recent) = self.newest(true)?;
+        let edges = match recent {
+            Some(recent) => recent.since(alloc, version, snapshot.number),
+            None => None,
+        };
+        Ok((snapshot, edges))
+    }
+
+    // The newest version that is published, with the edges that the last commits named if they are
+    // asked for. The errors are those of `latest`.
+    fn newest(
+        &mut self,
+        with_recent: bool,
+    ) -> Result<(Snapshot, Option<Arc<RecentEdges>>), LatestError>
+        ensures shows { IfOk result (λ r. Shows (opened J.vertices J.room) self.old self.new) }
+        ensures newest { IfOk result (λ r. IsNewest (state_at (opened J.vertices J.room) self.new.shown) r.0.number (arc_value r.0.graph)) }
+        ensures recent { IfOk result (λ r. IfSome r.1 (λ edges. AreRecent (state_at (opened J.vertices J.room) self.new.shown).batches (arc_value edges))) }
+        ensures count { IfOk result (λ r. is_vertex_count J.vertices ≡ true) }
+        ensures err { OnErr result (self.new ≡ self.old) }
+        ensures legal { IsLegal (opened J.vertices J.room) (steps_of self.new.shown) }
+    {
+        self.history_prefix.len();
+        let query = LatestQuery {
+            history_prefix: &self.history_prefix,
+            with_recent,
+        };
+        let ShownVersion {
+            snapshot,
+            recent,
+            history_prefix,
+        } = replace_with(&mut self.read, query, read_shown::<J>)?;
+        self.history_prefix = history_prefix;
+        Ok((snapshot, recent))
     }
 
     /// What this reader showed after its last accepted step, or the empty history before the first,
@@ -105,6 +165,35 @@ impl<J: Naming> Reader<J> {
         Token {
             history_prefix: self.last.again(),
         }
+    }
+
+    /// The history that this reader shows, as a token. Takes no memory.
+    ///
+    /// # Example
+    ///
+    /// ```
+    /// let history = reader.history();
+    /// ```
+    pub fn history(&self) -> Token<J>
+        ensures { result ≡ self.now.shown }
+    {
+        Token {
+            history_prefix: self.history_prefix.again(),
+        }
+    }
+
+    /// Whether the history that this reader shows begins with the token's; else the token's begins
+    /// with it. It is so after [`Reader::learn`].
+    ///
+    /// # Example
+    ///
+    /// ```
+    /// if reader.knows(&history) {
+    /// ```
+    pub fn knows(&self, token: &Token<J>) -> bool
+        ensures { MatchBool result (IsPrefix token.now self.now.shown) (IsPrefix self.now.shown token.now) }
+    {
+        token.history_prefix.begins(&self.history_prefix)
     }
 
     /// Takes in what a token tells: the history shown afterwards begins with the one before and with
@@ -176,41 +265,64 @@ impl<J: Naming> Model for Token<J> {
     ghost view = { λ t. t.history_prefix };
 }
 
+// What is asked of the value that is shown: a history that begins with this one, and whether the edges
+// that the last commits named are asked for too.
+#[derive(Drop)]
+struct LatestQuery<'a, J: Naming> {
+    history_prefix: &'a HistoryPrefix<J>,
+    with_recent: bool,
+}
+
+// The version that is shown, the edges that the last commits named, and the history that made it.
+#[derive(Drop)]
+struct ShownVersion<J: Naming> {
+    snapshot: Snapshot,
+    recent: Option<Arc<RecentEdges>>,
+    history_prefix: HistoryPrefix<J>,
+}
+
 // What is shown, as `see` has it, and the reader with which it was read.
 fn read_shown<J: Naming>(
     reader: ShownReader,
-    history_prefix: &HistoryPrefix<J>,
-) -> (
-    ShownReader,
-    Result<(Snapshot, HistoryPrefix<J>), LatestError>,
-)
+    query: LatestQuery<'_, J>,
+) -> (ShownReader, Result<ShownVersion<J>, LatestError>)
     requires { Knows J.book (opened J.vertices J.room) (view_of reader.place) }
     ensures knows { Knows J.book (opened J.vertices J.room) (view_of result.0.place) }
-    ensures seen { IfOk result.1 (λ r. IsPrefix history_prefix.now r.1 × IsLegal (opened J.vertices J.room) (steps_of r.1)) }
-    ensures newest { IfOk result.1 (λ r. IsNewest (state_at (opened J.vertices J.room) r.1) r.0.number (arc_value r.0.graph)) }
+    ensures seen { IfOk result.1 (λ v. IsPrefix query.entry.history_prefix.now v.history_prefix
+        × IsLegal (opened J.vertices J.room) (steps_of v.history_prefix) × (is_vertex_count J.vertices ≡ true)) }
+    ensures newest { IfOk result.1 (λ v. IsNewest (state_at (opened J.vertices J.room) v.history_prefix) v.snapshot.number (arc_value v.snapshot.graph)) }
+    ensures recent { IfOk result.1 (λ v. IfSome v.recent (λ edges. AreRecent (state_at (opened J.vertices J.room) v.history_prefix).batches (arc_value edges))) }
 {
     match reader.enter_as::<Seeing>() {
         Ok(reading) => {
-            let seen = see(reading.get(), history_prefix);
+            let seen = see(reading.get(), &query);
             (reading.leave(), seen)
         }
         Err(reader) => (reader, Err(LatestError::Closed)),
     }
 }
 
-// The version that is shown, and the history that made it, where that begins with what was seen.
-fn see<J: Naming>(
-    shown: &Shown,
-    history_prefix: &HistoryPrefix<J>,
-) -> Result<(Snapshot, HistoryPrefix<J>), LatestError>
+// The version that is shown, where its history begins with the one that is asked for.
+fn see<J: Naming>(shown: &Shown, query: &LatestQuery<'_, J>) -> Result<ShownVersion<J>, LatestError>
     requires { (shown.now.book ≡ J.book) × (shown.now.base ≡ opened J.vertices J.room) }
-    ensures seen { IfOk result (λ r. IsPrefix history_prefix.now r.1 × IsLegal (opened J.vertices J.room) (steps_of r.1)) }
-    ensures newest { IfOk result (λ r. IsNewest (state_at (opened J.vertices J.room) r.1) r.0.number (arc_value r.0.graph)) }
+    ensures seen { IfOk result (λ v. IsPrefix query.now.history_prefix.now v.history_prefix
+        × IsLegal (opened J.vertices J.room) (steps_of v.history_prefix) × (is_vertex_count J.vertices ≡ true)) }
+    ensures newest { IfOk result (λ v. IsNewest (state_at (opened J.vertices J.room) v.history_prefix) v.snapshot.number (arc_value v.snapshot.graph)) }
+    ensures recent { IfOk result (λ v. IfSome v.recent (λ edges. AreRecent (state_at (opened J.vertices J.room) v.history_prefix).batches (arc_value edges))) }
 {
-    let newer = shown.history_prefix::<J>();
-    if !history_prefix.begins(&newer) {
+    let history_prefix = shown.history_prefix::<J>();
+    if !query.history_prefix.begins(&history_prefix) {
         return Err(LatestError::Closed);
     }
     let snapshot = shown.snapshot()?;
-    Ok((snapshot, newer))
+    let recent = if query.with_recent {
+        Some(shown.recent()?)
+    } else {
+        None
+    };
+    Ok(ShownVersion {
+        snapshot,
+        recent,
+        history_prefix,
+    })
 }

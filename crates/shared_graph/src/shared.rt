@@ -1,6 +1,7 @@
 //! Graphs that threads share.
 
-ghost use Rattle.std.specs.Prelude.{◌≡◌, ◌+◌, ◌<◌, ◌≤◌, ◌∷◌, [], ◌++◌, IfOk};
+ghost use Rattle.std.specs.Prelude.{◌≡◌, ◌+◌, ◌<◌, ◌≤◌, ◌∷◌, [], ◌++◌, true, IfOk};
+ghost use Rattle.tree_batch.specs.Digraph.{is_vertex_count};
 ghost use Rattle.version_list.specs.declared.step.Step.TheVariants.{Commit, Acquire, Trim};
 ghost use Rattle.version_list.specs.declared.step.Reply.TheVariants as reply;
 ghost use Rattle.version_list.specs.Machine.{opened};
@@ -250,6 +251,7 @@ fn versions_for(
 ) -> Result<Versions, SharedError>
     ensures opens { Opens vertices chunk_size readers (λ _. fresh_readers readers) result }
     ensures versions { IfOk result (λ v. v ≡ beginning (opened vertices room)) }
+    ensures count { IfOk result (λ _. is_vertex_count vertices ≡ true) }
     ensures readers { IfOk result (λ _. (0 < readers) × (readers ≤ 64)) }
 {
     let are_readers = 1 <= readers && readers <= MAX_READERS;

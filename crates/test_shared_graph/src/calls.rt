@@ -39,6 +39,10 @@ pub(crate) enum Call {
     Is(u32, &'static [(u32, u32, i64)]),
     /// Takes the newest version, which must have so many vertices and edges.
     Counts(u32, usize),
+    /// Takes the newest version with the edges since a version, which must be these, or unknown.
+    Since(u64, Option<&'static [(u32, u32)]>),
+    /// Takes the newest version with the edges since a version, which must be so many, or unknown.
+    CountsSince(u64, Option<usize>),
     /// Looks at the version that was held last: its ticket, its vertices and its edges.
     Held(u64, u32, &'static [(u32, u32, i64)]),
     /// Looks whether the hubs of the version that was held last are sets in chunks of this size.
@@ -100,6 +104,33 @@ fn look<J: Naming>(me: &mut Reader<J>, call: Call) -> Answer {
         first
     } else {
         Err(Failure::Newest)
+    }
+}
+
+// Takes the newest version with the edges since another, which must be what a call says.
+fn look_since<J: Naming>(alloc: Global, me: &mut Reader<J>, call: Call) -> Answer {
+    let version = match call {
+        Call::Since(version, _) | Call::CountsSince(version, _) => version,
+        _ => return Err(Failure::Call),
+    };
+    let (newest, edges) = me
+        .latest_since(alloc, version)
+        .map_err(|error| Failure::Refused(error.number()))?;
+    let holds = match call {
+        Call::Since(_, wanted) => are_edges(edges, wanted),
+        Call::CountsSince(_, wanted) => edges.map(|edges| edges.len()) == wanted,
+        _ => false,
+    };
+    need(holds, Failure::Since)?;
+    Ok(newest.number)
+}
+
+// Whether edges are these.
+fn are_edges(edges: Option<Vec<(u32, u32)>>, wanted: Option<&[(u32, u32)]>) -> bool {
+    match (edges, wanted) {
+        (Some(edges), Some(wanted)) => edges.as_slice() == wanted,
+        (None, None) => true,
+        _ => false,
     }
 }
 
@@ -211,6 +242,10 @@ fn call_alone<J: Naming>(
         Call::Learn => learn(seats, who),
         Call::Held(ticket, vertices, edges) => held_is(kept, (ticket, vertices), edges),
         Call::InChunks(chunk_size) => held_in_chunks(alloc, kept, chunk_size),
+        Call::Since(..) | Call::CountsSince(..) => match seats.get_mut(who) {
+            Some(me) => look_since(alloc, &mut me.reader, call),
+            None => Err(Failure::Call),
+        },
         _ => match seats.get_mut(who) {
             Some(me) => look(&mut me.reader, call),
             None => Err(Failure::Call),
@@ -228,9 +263,13 @@ fn make<J: Naming + Send + Sync, R: Threads + Wait + Clock + Print + Files + All
     (who, call): (usize, Call),
 ) -> Answer {
     match call {
-        Call::Learn | Call::Held(..) | Call::InChunks(_) | Call::Is(..) | Call::Counts(..) => {
-            call_alone(alloc, seats, kept, (who, call))
-        }
+        Call::Learn
+        | Call::Held(..)
+        | Call::InChunks(_)
+        | Call::Is(..)
+        | Call::Counts(..)
+        | Call::Since(..)
+        | Call::CountsSince(..) => call_alone(alloc, seats, kept, (who, call)),
         Call::Asked(call) => call_asked(rt, alloc, graph, seats, kept, *call),
         Call::All(roles) => act_all(rt, alloc, graph, seats, roles),
         _ => match seats.get_mut(who) {

@@ -26,6 +26,8 @@ pub(crate) enum Failure {
     Number,
     /// Readers, or one reader again, are given another newest version.
     Newest,
+    /// A reader is given other edges since a version.
+    Since,
     /// A version does not come.
     Late,
     /// The pages of memory are not read.

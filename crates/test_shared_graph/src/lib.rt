@@ -1,8 +1,8 @@
 //! Tests of shared graphs on threads: what no contract says of two passes that told each other nothing, of chunk sizes, and of
 //! calls after a refusal; and calls that memory may run out for.
 //!
-//! All tests but `writers.rt` are tables of calls with their answers (`tables.rt`, `beside.rt`, `memory.rt` and
-//! `refused_growths.rt`), which `calls.rt` makes on a graph that it opens.
+//! All tests but `writers.rt` are tables of calls with their answers (`tables.rt`, `since.rt`, `beside.rt`,
+//! `memory.rt` and `refused_growths.rt`), which `calls.rt` makes on a graph that it opens.
 //!
 //! They stand apart from `test_library`, so that no other test has leave to wait, and both crates are
 //! proved side by side.
@@ -26,6 +26,8 @@ mod refused_growths;
 mod roles;
 #[cfg(test)]
 mod seats;
+#[cfg(test)]
+mod since;
 #[cfg(test)]
 mod tables;
 #[cfg(test)]

@@ -2,9 +2,9 @@
 use Rattle.std.proofs.Common.{◌≡◌, ◌∙◌, ◌∷◌, ◌++◌, [], List, sym, ap, subst, arith}
 use Rattle.version_list.specs.Machine.{State, opened, state_after}
 use Rattle.shared_graph.specs.declared.entry.Entry.{Entry}
-use Rattle.shared_graph.specs.Histories.{state_at, IsNewest}
+use Rattle.shared_graph.specs.Histories.{state_at}
 use Rattle.shared_graph.specs.inside.Publishing.{Published}
-use Rattle.std.specs.Arc.{arc_value}
+use Rattle.shared_graph.specs.inside.Recent.{IsNewestVersion}
 use Rattle.shared_graph.proofs.Growing.{state_at-push, length-own, legal_few}
 use Rattle.shared_graph.proofs.published_log.PublishedLog.record.Goals as goal
 
@@ -16,7 +16,7 @@ new-shown-requires-clause-newest g c =
     let after : state_at base c.make_step.new.history_prefix ≡ state_after (state_at base log) e.done.step = ap (state_at base) c.make_step.ensures.history_prefix ∙ state_at-push base log e in
     let before : state_after (state_at base log) e.done.step ≡ state_after (state_at base c.args.self.now) e.done.step =
     ap (λ (l : List Entry). state_after (state_at base l) e.done.step) c.self.view_is in
-    subst (λ (s : State). IsNewest s c.args.number (arc_value c.args.graph)) (sym (after ∙ before)) c.requires.newest
+    subst (λ (s : State). IsNewestVersion s c.args.newest) (sym (after ∙ before)) c.requires.newest
 
 pub has_made-requires-clause-few : goal.has_made-requires-clause-few
 has_made-requires-clause-few g c =
