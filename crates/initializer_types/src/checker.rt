@@ -31,6 +31,8 @@ pub struct Checker {
     pub writes: Reductions,
     /// What each edge function writes.
     pub written: Vec<Reductions>,
+    /// Of the faults so far the least, if there is one.
+    pub first_fault: Option<Fault>,
 }
 
 impl Drop for Checker {
@@ -44,6 +46,7 @@ impl Drop for Checker {
             statements: _,
             writes: _,
             written: _,
+            first_fault: _,
         } = self;
     }
 }
@@ -62,6 +65,7 @@ impl Checker {
             statements: _,
             writes: _,
             written: _,
+            first_fault: _,
         } = self;
         (names, label_names)
     }
@@ -101,19 +105,14 @@ impl Checker {
 /// fault is noted.
 ///
 /// The error means that memory ran out.
-pub fn declare(
-    checker: &mut Checker,
-    name: &Name,
-    entity: Entity,
-    first_fault: &mut Option<Fault>,
-) -> Result<(), AllocError>
-    ensures declared { ReportsFaults (λ _. checker_of checker.new) first_fault.old first_fault.new result
+pub fn declare(checker: &mut Checker, name: &Name, entity: Entity) -> Result<(), AllocError>
+    ensures declared { ReportsFaults (λ _. checker_of checker.new) checker.old.first_fault checker.new.first_fault result
         (declared_in (checker_of checker.old) name.now entity) }
     ensures kept { OnOk result (KeepsNames checker.old.scope checker.new.scope) }
 {
     checker
         .scope
-        .declare(checker.alloc, name, entity, first_fault)?;
+        .declare(checker.alloc, name, entity, &mut checker.first_fault)?;
     let copy = Sequence::new(Vec::from_slice(checker.alloc, name.bytes())?);
     checker.names.push(copy)?;
     Ok(())
@@ -122,18 +121,14 @@ pub fn declare(
 /// Declares the variable of a `for`, which is the next integer, and answers its index and that of its name.
 ///
 /// The error means that memory ran out.
-pub fn declare_loop_variable(
-    checker: &mut Checker,
-    name: &Name,
-    first_fault: &mut Option<Fault>,
-) -> Result<VarRef, AllocError>
-    ensures declared { ReportsFaults (λ _. checker_of checker.new) first_fault.old first_fault.new result
+pub fn declare_loop_variable(checker: &mut Checker, name: &Name) -> Result<VarRef, AllocError>
+    ensures declared { ReportsFaults (λ _. checker_of checker.new) checker.old.first_fault checker.new.first_fault result
         (declared_in (checker_of checker.old) name.now (LoopVariable (slot_of_integer (checker_of checker.old)))) }
     ensures slot { IfOk result (λ slot. slot ≡ slot_of_integer (checker_of checker.old)) }
     ensures kept { OnOk result (KeepsNames checker.old.scope checker.new.scope) }
 {
     let slot = checker.integer_slot();
-    declare(checker, name, Entity::LoopVariable(slot), first_fault)?;
+    declare(checker, name, Entity::LoopVariable(slot))?;
     Ok(slot)
 }
 
@@ -141,12 +136,8 @@ pub fn declare_loop_variable(
 /// another statement has the label, the fault is noted.
 ///
 /// The error means that memory ran out.
-pub fn label(
-    checker: &mut Checker,
-    label: &Option<Name>,
-    first_fault: &mut Option<Fault>,
-) -> Result<Option<usize>, AllocError>
-    ensures labelled { ReportsFaults (λ index. (index, checker_of checker.new)) first_fault.old first_fault.new result
+pub fn label(checker: &mut Checker, label: &Option<Name>) -> Result<Option<usize>, AllocError>
+    ensures labelled { ReportsFaults (λ index. (index, checker_of checker.new)) checker.old.first_fault checker.new.first_fault result
         (with_label (checker_of checker.old) label.now) }
     ensures kept { checker.new.scope ≡ checker.old.scope }
 {
@@ -154,7 +145,7 @@ pub fn label(
         return Ok(None);
     };
     if let Some(index) = checker.labels.get(label.bytes()) {
-        note(first_fault, label.at(), TypeRule::BadLabel);
+        note(&mut checker.first_fault, label.at(), TypeRule::BadLabel);
         return Ok(Some(index));
     }
     let index = checker.labels.len();

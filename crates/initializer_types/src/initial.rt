@@ -326,33 +326,39 @@ fn wrong(at: usize, first_fault: &mut Option<Fault>) -> Initializer
     Initializer::Error
 }
 
-/// What a value is that is in the statement or declaration whose first token is at this offset. Its faults are noted.
+/// What a value is that is in the statement or declaration whose first token is at this offset. Its faults are noted, and all
+/// else that the checker knows is unchanged.
 ///
 /// The error means that memory ran out.
 pub fn read_initial(
-    checker: &Checker,
+    checker: &mut Checker,
     at: usize,
     initial: &Initial,
-    first_fault: &mut Option<Fault>,
 ) -> Result<Initializer, AllocError>
-    ensures { ReportsFaults initializer_tree first_fault.old first_fault.new result (initializer_of (checker_of checker.now) at (initial_tree initial.now)) }
+    ensures read { ReportsFaults initializer_tree checker.old.first_fault checker.new.first_fault result
+        (initializer_of (checker_of checker.old) at (initial_tree initial.now)) }
+    ensures kept { checker_of checker.new ≡ checker_of checker.old }
 {
-    let scope = &checker.scope;
     match initial {
-        Initial::NewSet(size) => Ok(new_empty_set(at, *size, first_fault)),
-        Initial::Load(argument) => Ok(loaded_edges(at, *argument, first_fault)),
+        Initial::NewSet(size) => Ok(new_empty_set(at, *size, &mut checker.first_fault)),
+        Initial::Load(argument) => Ok(loaded_edges(at, *argument, &mut checker.first_fault)),
         Initial::Vertices(edges) => {
-            let edges = entity(scope, edges, first_fault);
-            Ok(on_edges(at, Initializer::Members(SetValue::All), edges, first_fault))
+            let edges = entity(&checker.scope, edges, &mut checker.first_fault);
+            Ok(on_edges(
+                at,
+                Initializer::Members(SetValue::All),
+                edges,
+                &mut checker.first_fault,
+            ))
         }
         Initial::OutDegrees(edges) => {
-            let edges = entity(scope, edges, first_fault);
-            Ok(on_edges(at, Initializer::Degrees, edges, first_fault))
+            let edges = entity(&checker.scope, edges, &mut checker.first_fault);
+            Ok(on_edges(at, Initializer::Degrees, edges, &mut checker.first_fault))
         }
         Initial::Filter { set, test } => {
-            let set = entity(scope, set, first_fault);
-            let test = entity(scope, test, first_fault);
-            Ok(filter(at, set, test, first_fault))
+            let set = entity(&checker.scope, set, &mut checker.first_fault);
+            let test = entity(&checker.scope, test, &mut checker.first_fault);
+            Ok(filter(at, set, test, &mut checker.first_fault))
         }
         Initial::ApplyModified {
             edges,
@@ -360,12 +366,24 @@ pub fn read_initial(
             function,
             vector,
         } => {
-            let apply = read_apply(scope, edges, ends, function, first_fault);
-            let vector = entity(scope, vector, first_fault);
-            Ok(modified(checker, at, apply, vector, first_fault))
+            let apply = read_apply(
+                &checker.scope,
+                edges,
+                ends,
+                function,
+                &mut checker.first_fault,
+            );
+            let vector = entity(&checker.scope, vector, &mut checker.first_fault);
+            Ok(modified(checker, at, apply, vector))
         }
         Initial::Value(expression) => {
-            let value = type_expression(checker.alloc, scope, at, expression, first_fault)?;
+            let value = type_expression(
+                checker.alloc,
+                &checker.scope,
+                at,
+                expression,
+                &mut checker.first_fault,
+            )?;
             Ok(Initializer::Typed(value))
         }
     }
@@ -423,15 +441,10 @@ fn filter(at: usize, set: Entity, test: Entity, first_fault: &mut Option<Fault>)
 }
 
 /// The vertices that an edge apply changes.
-fn modified(
-    checker: &Checker,
-    at: usize,
-    apply: NamedApply,
-    vector: Entity,
-    first_fault: &mut Option<Fault>,
-) -> Initializer
-    ensures { outcome first_fault.old (vertices_modified (checker_of checker.now) at apply.target (apply_end_tree apply.from) (apply_end_tree apply.to)
-        apply.function vector) ≡ (initializer_tree result, first_fault.new) }
+fn modified(checker: &mut Checker, at: usize, apply: NamedApply, vector: Entity) -> Initializer
+    ensures modified { outcome checker.old.first_fault (vertices_modified (checker_of checker.old) at apply.target (apply_end_tree apply.from)
+        (apply_end_tree apply.to) apply.function vector) ≡ (initializer_tree result, checker.new.first_fault) }
+    ensures kept { checker_of checker.new ≡ checker_of checker.old }
 {
     let NamedApply {
         target: edges,
@@ -448,14 +461,14 @@ fn modified(
         return Initializer::Error;
     }
     if !is_edges_entity(edges) || is_one_wrong(from, to) || are_weights_lacking(edges, function) {
-        return wrong(at, first_fault);
+        return wrong(at, &mut checker.first_fault);
     }
     let (Some(function), Some(vector)) = (edge_function_named(function), vector_named(vector))
     else {
-        return wrong(at, first_fault);
+        return wrong(at, &mut checker.first_fault);
     };
     if !is_written(checker, function, vector) {
-        return wrong(at, first_fault);
+        return wrong(at, &mut checker.first_fault);
     }
     Initializer::Members(SetValue::Modified(ends_of(from, to), function, vector))
 }

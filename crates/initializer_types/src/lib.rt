@@ -1,14 +1,16 @@
 //! The state of the checker of types, and the types of initializers.
 //!
 //! A contract sees a [`Checker`] as a `CheckerTree`: the visible names, all names and labels so far, the number of
-//! statements of `main`, and the vectors that each edge function reduces. [`declare`] and [`label`] add to it.
+//! statements of `main`, and the vectors that each edge function reduces. Beside it the checker holds the allocator and
+//! the first fault. [`declare`] and [`label`] add to it.
 //! [`read_initial`] gives the [`Initializer`] of an initial or assigned value, and [`integer`], [`condition`] and the
 //! methods of `Initializer` convert a value to the type that its place requires. [`integer_literal`],
 //! [`condition_literal`] and [`kind_of`] read a declaration by its form alone, without its names.
 //!
 //! `specs/Checker.antt`, `specs/Initial.antt` and `specs/DeclarationForms.antt` have one equation for each rule. As in
 //! `expression_types`, each definition gives a value with the list of the faults on the way to it, and a call keeps of
-//! all faults so far the least. The only error of a call is out of memory.
+//! all faults so far the least, in `first_fault` of the checker or, if it only converts a value, in the place that it is
+//! lent. The only error of a call is out of memory.
 //!
 //! The checker of statements and declarations, `types`, depends on this crate.
 #![tactic(auto)]

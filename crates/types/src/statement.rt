@@ -74,27 +74,26 @@ impl BlockKind for MainBlock {
     }
 
     fn variable(
-        checker: &Checker,
+        checker: &mut Checker,
         at: usize,
         declared: DeclaredType,
         initializer: Initializer,
-        first_fault: &mut Option<Fault>,
     ) -> (Entity, StatementKind) {
         match declared {
             DeclaredType::Int => {
-                let value = initializer.into_integer(at, first_fault);
+                let value = initializer.into_integer(at, &mut checker.first_fault);
                 let slot = checker.integer_slot();
                 let statement = ValueStatement::DeclareInt(slot.name, value);
                 (Entity::IntVariable(slot), of_value(statement))
             }
             DeclaredType::Bool => {
-                let value = initializer.into_condition(at, first_fault);
+                let value = initializer.into_condition(at, &mut checker.first_fault);
                 let slot = checker.condition_slot();
                 let statement = ValueStatement::DeclareBool(slot.name, value);
                 (Entity::BoolVariable(slot), of_value(statement))
             }
             DeclaredType::VertexSet => {
-                let value = initializer.into_members(at, first_fault);
+                let value = initializer.into_members(at, &mut checker.first_fault);
                 let slot = checker.set_slot();
                 let statement = SimpleStatement::DeclareSet(slot.name, value);
                 (Entity::SetVariable(slot), StatementKind::Simple(statement))
@@ -102,7 +101,9 @@ impl BlockKind for MainBlock {
             DeclaredType::Vertex
             | DeclaredType::Vector
             | DeclaredType::EdgeSet
-            | DeclaredType::WeightedEdgeSet => { (Entity::Error, wrong(at, first_fault)) }
+            | DeclaredType::WeightedEdgeSet => {
+                (Entity::Error, wrong(at, &mut checker.first_fault))
+            }
         }
     }
 
@@ -150,27 +151,42 @@ impl BlockKind for MainBlock {
     }
 
     fn print(
-        checker: &Checker,
+        checker: &mut Checker,
         at: usize,
         value: &Expression,
-        first_fault: &mut Option<Fault>,
     ) -> Result<StatementKind, AllocError> {
-        let value = type_expression(checker.alloc, &checker.scope, at, value, first_fault)?;
-        Ok(print_value(at, value, first_fault))
+        let value = type_expression(
+            checker.alloc,
+            &checker.scope,
+            at,
+            value,
+            &mut checker.first_fault,
+        )?;
+        Ok(print_value(at, value, &mut checker.first_fault))
     }
 
     fn set_entry(
-        checker: &Checker,
+        checker: &mut Checker,
         written: WrittenEntry<'_>,
         value: &Expression,
-        first_fault: &mut Option<Fault>,
     ) -> Result<StatementKind, AllocError> {
         let at = written.vector.at();
-        let scope = &checker.scope;
-        let vector = vector(scope, at, written.vector, first_fault);
-        let index = type_expression(checker.alloc, scope, at, written.index, first_fault)?;
-        let index = index_of(at, index, first_fault);
-        let value = integer(checker.alloc, scope, at, value, first_fault)?;
+        let vector = vector(&checker.scope, at, written.vector, &mut checker.first_fault);
+        let index = type_expression(
+            checker.alloc,
+            &checker.scope,
+            at,
+            written.index,
+            &mut checker.first_fault,
+        )?;
+        let index = index_of(at, index, &mut checker.first_fault);
+        let value = integer(
+            checker.alloc,
+            &checker.scope,
+            at,
+            value,
+            &mut checker.first_fault,
+        )?;
         Ok(setting(vector, index, value))
     }
 
@@ -179,39 +195,54 @@ impl BlockKind for MainBlock {
         written: WrittenEntry<'_>,
         by: Reduction,
         value: &Expression,
-        first_fault: &mut Option<Fault>,
     ) -> Result<StatementKind, AllocError> {
         let at = written.vector.at();
-        let scope = &checker.scope;
-        let vector = vector(scope, at, written.vector, first_fault);
-        let index = type_expression(checker.alloc, scope, at, written.index, first_fault)?;
-        let index = index_of(at, index, first_fault);
-        let value = integer(checker.alloc, scope, at, value, first_fault)?;
+        let vector = vector(&checker.scope, at, written.vector, &mut checker.first_fault);
+        let index = type_expression(
+            checker.alloc,
+            &checker.scope,
+            at,
+            written.index,
+            &mut checker.first_fault,
+        )?;
+        let index = index_of(at, index, &mut checker.first_fault);
+        let value = integer(
+            checker.alloc,
+            &checker.scope,
+            at,
+            value,
+            &mut checker.first_fault,
+        )?;
         Ok(reducing(vector, index, by, value))
     }
 
     fn add_vertex(
-        checker: &Checker,
+        checker: &mut Checker,
         set: &Name,
         vertex: &Expression,
-        first_fault: &mut Option<Fault>,
     ) -> Result<StatementKind, AllocError> {
         let at = set.at();
-        let entity = entity(&checker.scope, set, first_fault);
-        let value = type_expression(checker.alloc, &checker.scope, at, vertex, first_fault)?;
-        Ok(add_value(at, value, entity, first_fault))
+        let entity = entity(&checker.scope, set, &mut checker.first_fault);
+        let value = type_expression(
+            checker.alloc,
+            &checker.scope,
+            at,
+            vertex,
+            &mut checker.first_fault,
+        )?;
+        Ok(add_value(at, value, entity, &mut checker.first_fault))
     }
 
-    fn apply(
-        checker: &Checker,
-        target: &Name,
-        ends: &Ends,
-        function: &Name,
-        first_fault: &mut Option<Fault>,
-    ) -> StatementKind {
+    fn apply(checker: &mut Checker, target: &Name, ends: &Ends, function: &Name) -> StatementKind {
         let at = target.at();
-        let apply = read_apply(&checker.scope, target, ends, function, first_fault);
-        apply_to(at, apply, has_ends(ends), first_fault)
+        let apply = read_apply(
+            &checker.scope,
+            target,
+            ends,
+            function,
+            &mut checker.first_fault,
+        );
+        apply_to(at, apply, has_ends(ends), &mut checker.first_fault)
     }
 
     ghost walked = { main_walked };

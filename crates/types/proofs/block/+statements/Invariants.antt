@@ -10,6 +10,6 @@ use Rattle.types.proofs.block.+statements.Given as goal
 abbrev pub invariant-statements-statements : goal.invariant-statements-statements
 invariant-statements-statements g l =
     let m = g.K.BlockKind.meaning in
-    (outcome l.fn.first_fault (block_typed m (checker_of l.fn.checker) (block_tree l.block))
-    ≡ outcome l.first_fault (m.row_typed (checker_of l.checker) (m.row_tree l.typed.items) (block_tree (drop l.statement-index l.block))))
+    (outcome l.fn.checker.first_fault (block_typed m (checker_of l.fn.checker) (block_tree l.block))
+    ≡ outcome l.checker.first_fault (m.row_typed (checker_of l.checker) (m.row_tree l.typed.items) (block_tree (drop l.statement-index l.block))))
     × KeepsNames l.fn.checker.scope l.checker.scope

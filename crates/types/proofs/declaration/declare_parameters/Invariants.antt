@@ -9,6 +9,6 @@ use Rattle.types.proofs.declaration.declare_parameters.Given as goal
 
 abbrev pub invariant-parameters : goal.invariant-parameters
 invariant-parameters l =
-    (outcome l.fn.first_fault (parameters_declared l.weighted (checker_of l.fn.checker) Source (map parameter_tree l.parameters))
-    ≡ outcome l.first_fault (parameters_declared l.weighted (checker_of l.checker) l.endpoint (map parameter_tree (drop l.parameter-index l.parameters))))
+    (outcome l.fn.checker.first_fault (parameters_declared l.weighted (checker_of l.fn.checker) Source (map parameter_tree l.parameters))
+    ≡ outcome l.checker.first_fault (parameters_declared l.weighted (checker_of l.checker) l.endpoint (map parameter_tree (drop l.parameter-index l.parameters))))
     × KeepsNames l.fn.checker.scope l.checker.scope
