@@ -24,8 +24,12 @@ impl StarvedProgram {
     }
 }
 
+/// No run leaves one behind.
+#[derive(Drop)]
+pub(crate) struct NoRecord;
+
 impl Programs for StarvedProgram {
-    type Record = u64;
+    type Record = NoRecord;
 
     ghost trees = { λ _. empty_program ∷ [] };
 
@@ -44,8 +48,8 @@ impl Programs for StarvedProgram {
         _graph: &Arc<Flat>,
         _turns: u64,
         workers: u64,
-        _former: Option<Predecessor<'_, u64>>,
-    ) -> Result<ProgramRun<u64>, AllocError> {
+        _former: Option<Predecessor<'_, NoRecord>>,
+    ) -> Result<ProgramRun<NoRecord>, AllocError> {
         self.0.store(workers, Ordering::SeqCst);
         Err(AllocError)
     }
