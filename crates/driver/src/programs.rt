@@ -1,6 +1,11 @@
 //! Programs that were compiled, as scripts run them.
-ghost use Rattle.std.specs.Prelude.{◌≡◌, map, IfOk};
+ghost use Rattle.std.specs.Prelude.{◌≡◌, ◌<◌, true, map, length, Some, IfOk, IfSome};
+ghost use Rattle.std.specs.Arc.{arc_value};
+ghost use Rattle.std.specs.List.{slice_get};
+ghost use Rattle.algorithm_meaning.specs.ProgramTree.{ProgramTree};
 ghost use Rattle.crew.specs.Outcome.{AreWorkers};
+ghost use Rattle.scripts.specs.Replies.{is_worker_count, meaning_on};
+ghost use Rattle.version_records.specs.VersionRecords.{IsPredecessor};
 ghost use Rattle.driver.specs.Reading.{tree_of};
 ghost use Rattle.driver.specs.inside.Programs.{AreSameFormer, IsRecordOfProgram, MayFollow, ShowsRun};
 
@@ -113,7 +118,16 @@ impl<F: Fn(Global, RunOrder<'_>) -> Result<RecordedRun, AllocError>> Programs
         turns: u64,
         workers: u64,
         former: Option<Predecessor<'_, RunRecord>>,
-    ) -> Result<ProgramRun<RunRecord>, AllocError> {
+    ) -> Result<ProgramRun<RunRecord>, AllocError>
+        requires ready { ((alloc : _) (order : _) → AreWorkers order.workers → MayFollow order → F.pre self.now.by alloc order)
+            × ((alloc : _) (order : _) (r : _) → F.post self.now.by alloc order r → IfOk r (ShowsRun order)) }
+        requires index { index < length (map tree_of self.now.plans.items) }
+        requires workers { is_worker_count workers ≡ true }
+        requires former { IfSome former (IsPredecessor (IsRecordOfProgram self.now.plans.items index) (arc_value graph.now)) }
+        ensures outcome { IfOk result (λ run. (program : ProgramTree) → slice_get (map tree_of self.now.plans.items) index ≡ Some program
+            → run.outcome ≡ meaning_on (arc_value graph.now) program turns) }
+        ensures kept { IfOk result (λ run. IfSome run.run_record (λ r. IsRecordOfProgram self.now.plans.items index r (arc_value graph.now))) }
+    {
         let former = former_of(&former);
         let order = RunOrder {
             program: index,

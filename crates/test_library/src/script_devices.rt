@@ -1,6 +1,7 @@
 //! Scripts over devices that are interrupted and go some bytes at a time, and runs that note by how many workers they go. What devices
 //! of the system show is in `tests/checks/failing_devices`.
-ghost use Rattle.std.specs.Prelude.{[], ◌∷◌};
+ghost use Rattle.std.specs.Prelude.{◌≡◌, [], ◌∷◌, true, IfOk, IfSome};
+ghost use Rattle.scripts.specs.Replies.{is_worker_count};
 ghost use Rattle.test_library.specs.inside.Programs.{empty_program};
 
 use devices::Device;
@@ -49,7 +50,11 @@ impl Programs for StarvedProgram {
         _turns: u64,
         workers: u64,
         _former: Option<Predecessor<'_, NoRecord>>,
-    ) -> Result<ProgramRun<NoRecord>, AllocError> {
+    ) -> Result<ProgramRun<NoRecord>, AllocError>
+        requires workers { is_worker_count workers ≡ true }
+        ensures outcome { IfOk result (λ run. ⊥) }
+        ensures kept { IfOk result (λ run. IfSome run.run_record (λ r. ⊥)) }
+    {
         self.0.store(workers, Ordering::SeqCst);
         Err(AllocError)
     }
