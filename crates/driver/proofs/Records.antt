@@ -1,6 +1,6 @@
 -- Records of the runs of programs.
-use Rattle.std.proofs.Common.{◌≡◌, ◌∙◌, ℕ, List, Option, Some, None, IfSome, ap, sym, subst, map, slice_get}
-use Rattle.std.proofs.lemmas.Option.{same_Some}
+use Rattle.std.proofs.Common.{◌≡◌, ◌∙◌, ◌<◌, ℕ, List, Option, Some, None, IfSome, ap, sym, subst, get_or, length, map, option_map, slice_get}
+use Rattle.std.proofs.lemmas.Option.{same_Some, slice_get-get_or, slice_get-map}
 use Rattle.std.specs.Arc.{arc_value}
 use Rattle.edge_differences.specs.Listed.{AreSameBut}
 use Rattle.tree_batch.specs.Edge.{Ends}
@@ -14,6 +14,11 @@ use Rattle.version_records.specs.VersionRecords.{IsPredecessor}
 use Rattle.driver.specs.declared.compiled_plan.CompiledPlan.{CompiledPlan}
 use Rattle.driver.specs.inside.Programs.{AreSameFormer, IsRecordOfProgram, IsRecordOfRun}
 
+-- what is read at an index is what is there of the list
+pub value_at : {A : Type 0} (f : CompiledPlan → A) (plans : List CompiledPlan) (index : ℕ) (here : CompiledPlan) → index < length plans → get_or plans index here ≡ here
+    → slice_get (map f plans) index ≡ Some (f here)
+value_at f plans index here below is = slice_get-map f plans index ∙ ap (option_map f) (slice_get-get_or plans index here below ∙ ap Some is)
+
 module _ (plans : List CompiledPlan) (index : ℕ) (plan : Plan) (g : Digraph) (at : slice_get (map (λ c. arc_value c.plan) plans) index ≡ Some plan) where
   -- a run may follow the record of a former run of its program
   pub follows : (p : Option (Predecessor RunRecord)) (f : Option FormerRecord) → AreSameFormer p f → IfSome p (IsPredecessor (IsRecordOfProgram plans index) g)
@@ -22,7 +27,7 @@ module _ (plans : List CompiledPlan) (index : ℕ) (plan : Plan) (g : Digraph) (
   follows None (Some f) same is = absurd same
   follows (Some p) None same is = absurd same
   follows (Some p) (Some f) same is =
-      let graph : arc_value f.run_record.now.graph ≡ is.former_graph = ap (λ (r : RunRecord). arc_value r.graph) same.0 ∙ is.is.graph in
+      let graph : arc_value f.run_record.now.graph ≡ is.former_graph = ap (λ (r : RunRecord). arc_value r.graph) same.0 ∙ is.is.on in
       record {
         of = ap (λ (r : RunRecord). arc_value r.plan) same.0 ∙ same_Some _ _ (sym is.is.plan ∙ at);
         vertices = ap (λ (h : Digraph). h.vertices) graph ∙ is.vertices;
@@ -32,4 +37,4 @@ module _ (plans : List CompiledPlan) (index : ℕ) (plan : Plan) (g : Digraph) (
   -- the record of a run is that of its program
   pub is_record_of_program : (o : Option RunRecord) → IfSome o (IsRecordOfRun plan g) → IfSome o (λ r. IsRecordOfProgram plans index r g)
   is_record_of_program None is = tt
-  is_record_of_program (Some r) is = record { plan = at ∙ ap Some (sym is.0); graph = is.1 }
+  is_record_of_program (Some r) is = record { plan = at ∙ ap Some (sym is.0); on = is.1 }

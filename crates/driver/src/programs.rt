@@ -24,21 +24,21 @@ use version_records::Predecessor;
 
 /// The run of a plan on a snapshot of a graph, for at most n turns, by n workers, which may follow a former run.
 #[derive(Clone, Copy)]
-pub(crate) struct RunOrder<'a> {
+pub(crate) struct RunOrder<'p, 'g, 'f> {
     // The index of the program among those of the request.
     pub(crate) program: usize,
-    pub(crate) plan: &'a Arc<Plan>,
-    pub(crate) graph: &'a Arc<Flat>,
+    pub(crate) plan: &'p Arc<Plan>,
+    pub(crate) graph: &'g Arc<Flat>,
     pub(crate) turns: u64,
     pub(crate) workers: usize,
-    pub(crate) former: Option<FormerRecord<'a>>,
+    pub(crate) former: Option<FormerRecord<'f>>,
 }
 
 /// Does a run that is ordered, and notes a fault that is the first. The only error is out of memory.
 pub(crate) fn run_by_workers<T: Threads + Sync>(
     rt: &T,
     alloc: Global,
-    order: RunOrder<'_>,
+    order: RunOrder<'_, '_, '_>,
     first_fault: &FirstFault,
 ) -> Result<RecordedRun, AllocError>
     requires workers { AreWorkers order.workers }
@@ -94,7 +94,7 @@ impl<'a, F> CompiledPrograms<'a, F> {
     }
 }
 
-impl<F: Fn(Global, RunOrder<'_>) -> Result<RecordedRun, AllocError>> Programs
+impl<F: Fn(Global, RunOrder<'_, '_, '_>) -> Result<RecordedRun, AllocError>> Programs
     for CompiledPrograms<'_, F> {
     type Record = RunRecord;
 
@@ -157,7 +157,7 @@ impl<F: Fn(Global, RunOrder<'_>) -> Result<RecordedRun, AllocError>> Programs
 }
 
 // A former record as runs take it.
-fn former_of<'a>(former: &'a Option<Predecessor<'_, RunRecord>>) -> Option<FormerRecord<'a>>
+fn former_of<'a>(former: &'a Option<Predecessor<'a, RunRecord>>) -> Option<FormerRecord<'a>>
     ensures { AreSameFormer former.now result }
 {
     match former {

@@ -112,7 +112,7 @@ fn serve_script<'a, T: Threads + Sync, F: Files, R: Feed, W: Drain, E: Drain>(
     let first_fault = &FirstFault::new();
     let refused = &RefusedLines::new();
     let programs = ProgramFiles::new(names, first_fault, refused);
-    let by = |alloc: Global, order: RunOrder<'_>| -> Result<RecordedRun, AllocError>
+    let by = |alloc: Global, order: RunOrder<'_, '_, '_>| -> Result<RecordedRun, AllocError>
         requires workers { AreWorkers order.workers }
         requires former { MayFollow order }
         ensures { IfOk result (ShowsRun order.entry) }
@@ -174,7 +174,12 @@ fn print_plan<'a, F: Files, W: Drain>(
 }
 
 // Compiles the programs in the files of these names, and then runs the script that a file holds, each program by `by`.
-fn run_file<'a, B: Fn(Global, RunOrder<'_>) -> Result<RecordedRun, AllocError>, F: Files, W: Drain>(
+fn run_file<
+    'a,
+    B: Fn(Global, RunOrder<'_, '_, '_>) -> Result<RecordedRun, AllocError>,
+    F: Files,
+    W: Drain,
+>(
     alloc: Global,
     script: &'a str,
     programs: ProgramFiles<'_, 'a>,
@@ -204,7 +209,7 @@ fn run_file<'a, B: Fn(Global, RunOrder<'_>) -> Result<RecordedRun, AllocError>, 
 // Compiles the programs in the files of these names, and then runs the standard input as a script with them, each by `by`.
 fn run_stream<
     'a,
-    B: Fn(Global, RunOrder<'_>) -> Result<RecordedRun, AllocError>,
+    B: Fn(Global, RunOrder<'_, '_, '_>) -> Result<RecordedRun, AllocError>,
     F: Files,
     R: Feed,
     W: Drain,

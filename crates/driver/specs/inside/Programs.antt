@@ -29,7 +29,7 @@ pub record ShowsRun (order : RunOrder) (run : RecordedRun) : Type 0 where
 -- the record is that of a run of the plan at an index on a graph
 pub record IsRecordOfProgram (plans : List CompiledPlan) (index : ℕ) (r : RunRecord) (graph : Digraph) : Type 0 where
   pub plan : slice_get (map (λ c. arc_value c.plan) plans) index ≡ Some (arc_value r.plan)
-  pub graph : arc_value r.graph ≡ graph
+  pub on : arc_value r.graph ≡ graph
 
 -- the same record, and the same list of edges
 abbrev pub AreSameFormer : Option (Predecessor RunRecord) → Option FormerRecord → Type 0
