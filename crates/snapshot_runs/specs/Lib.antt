@@ -1,3 +1,4 @@
 pub mod Refusal
 pub mod Outcome
+pub mod Runs
 pub mod inside

@@ -6,11 +6,19 @@
 //! with all that the reader had shown, whole where the newest version was asked for, and it does not depend on who commits, holds
 //! or releases meanwhile, on the number of workers, or on the schedule. `specs/Outcome.antt` says what an outcome on a graph is.
 //!
-//! It depends on `runner` and `shared_graph`, and uses nothing of them but their public contracts.
+//! [`run_latest_after`] is [`run_latest`] for a caller who runs a plan again and again: [`Runs`] keep the record of the last run, and
+//! the next one follows it if few edges differ (`run_records`). The contract is the same. The record belongs to a history that the
+//! reader of that run showed, which is a beginning of all longer ones, so each reader of the graph may run next.
+//!
+//! It depends on `run_records` and `shared_graph`, and uses nothing of them but their public contracts.
 #![tactic(auto)]
 
 mod error;
+mod last_run;
+mod recorded;
+mod runs;
 mod snapshot_run;
 
 pub use error::LatestRunError;
+pub use runs::{Runs, run_latest_after};
 pub use snapshot_run::{run_held, run_latest};

@@ -7,7 +7,7 @@ use crate::kept::{Kept, check_graph, held_in_chunks, held_is, hold, release};
 use crate::memory::growth;
 use crate::roles::commit_many;
 use crate::seats::{Role, Seat, act_all, seats};
-use shared_graph::{Naming, Opening, Reader, SharedGraph};
+use shared_graph::{LatestError, Naming, Opening, Reader, SharedGraph};
 use std::alloc::Global;
 use std::marker::Brand;
 use std::rt::{Clock, Files};
@@ -107,22 +107,28 @@ fn look<J: Naming>(me: &mut Reader<J>, call: Call) -> Answer {
     }
 }
 
-// Takes the newest version with the edges since another, which must be what a call says.
-fn look_since<J: Naming>(alloc: Global, me: &mut Reader<J>, call: Call) -> Answer {
-    let version = match call {
-        Call::Since(version, _) | Call::CountsSince(version, _) => version,
-        _ => return Err(Failure::Call),
-    };
-    let (newest, edges) = me
-        .latest_since(alloc, version)
-        .map_err(|error| Failure::Refused(error.number()))?;
+// The number of the newest version, and whether the edges since another version are what a call says.
+fn since_holds<J: Naming>(
+    alloc: Global,
+    reader: &mut Reader<J>,
+    version: u64,
+    call: Call,
+) -> Result<(u64, bool), LatestError> {
+    let (snapshot, edges) = reader.latest_since(alloc, version)?;
     let holds = match call {
         Call::Since(_, wanted) => are_edges(edges, wanted),
         Call::CountsSince(_, wanted) => edges.map(|edges| edges.len()) == wanted,
         _ => false,
     };
-    need(holds, Failure::Since)?;
-    Ok(newest.number)
+    Ok((snapshot.number, holds))
+}
+
+// Takes the newest version with the edges since another, which must be what a call says.
+fn look_since<J: Naming>(alloc: Global, me: &mut Reader<J>, version: u64, call: Call) -> Answer {
+    match since_holds(alloc, me, version, call) {
+        Ok((number, holds)) => need(holds, Failure::Since).map(|()| number),
+        Err(error) => Err(Failure::Refused(error.number())),
+    }
 }
 
 // Whether edges are these.
@@ -242,8 +248,8 @@ fn call_alone<J: Naming>(
         Call::Learn => learn(seats, who),
         Call::Held(ticket, vertices, edges) => held_is(kept, (ticket, vertices), edges),
         Call::InChunks(chunk_size) => held_in_chunks(alloc, kept, chunk_size),
-        Call::Since(..) | Call::CountsSince(..) => match seats.get_mut(who) {
-            Some(me) => look_since(alloc, &mut me.reader, call),
+        Call::Since(version, _) | Call::CountsSince(version, _) => match seats.get_mut(who) {
+            Some(me) => look_since(alloc, &mut me.reader, version, call),
             None => Err(Failure::Call),
         },
         _ => match seats.get_mut(who) {

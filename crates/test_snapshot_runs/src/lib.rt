@@ -11,6 +11,8 @@ mod calls;
 #[cfg(test)]
 mod failure;
 #[cfg(test)]
+mod following;
+#[cfg(test)]
 mod programs;
 #[cfg(test)]
 mod racing;

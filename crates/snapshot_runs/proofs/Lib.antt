@@ -1,0 +1,3 @@
+pub mod Beside
+pub mod Recording
+pub mod Crossing

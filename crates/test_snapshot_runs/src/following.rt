@@ -1,0 +1,172 @@
+//! Runs on the newest version that follow one another, on streams of small edits, beside runs from nothing.
+
+use bench_support::{Random, random_weight};
+use compiler::compile;
+use crew::Open;
+use plans::Plan;
+use shared_graph::{Naming, Opening, Reader, SharedError, SharedGraph};
+use snapshot_runs::{Runs, run_latest, run_latest_after};
+use std::alloc::Global;
+use std::marker::Brand;
+use std::sync::{Arc, Wait};
+use std::test::Fail;
+use std::thread::Threads;
+use test_helpers::Checked;
+use test_oracle::{PROGRAMS, Scheduled, check_same};
+use tree_batch::{Batch, Entry, GraphError};
+
+const VERTICES: u32 = 40;
+
+// How many entries the first batch has, so that few edits are a hundredth of the edges.
+const FIRST: u64 = 900;
+
+// How many streams each program has, and how many batches a stream has.
+const STREAMS: u64 = 2;
+
+const BATCHES: u64 = 12;
+
+// At most so many turns of a run: some runs end by their turns.
+const TURNS: [u64; 3] = [2, 5, 60];
+
+// By how many workers a run is done.
+const WORKERS: [usize; 3] = [1, 2, 4];
+
+fn random_vertex(random: &mut Random) -> u32 {
+    random.below(u64::from(VERTICES)) as u32
+}
+
+fn random_entry(random: &mut Random) -> Entry {
+    let (source, destination) = (random_vertex(random), random_vertex(random));
+    match random.below(4) {
+        0 => Entry::Remove(source, destination),
+        _ => Entry::Add(source, destination, random_weight(random)),
+    }
+}
+
+// A batch of so many entries, and sometimes of a vertex more.
+fn random_batch(alloc: Global, random: &mut Random, count: u64) -> Result<Batch, GraphError> {
+    let mut batch = Batch::new(alloc);
+    for _ in 0..count {
+        batch.push(random_entry(random))?;
+    }
+    Ok(batch)
+}
+
+// Commits a batch of so many entries. Some batches ask for as many vertices as there are or for one more.
+fn commit<J: Naming, R: Threads + Wait + Sync>(
+    rt: &R,
+    alloc: Global,
+    graph: &SharedGraph<J, &R>,
+    writer: &mut Reader<J>,
+    random: &mut Random,
+    count: u64,
+) -> Result<(), Fail> {
+    let mut batch = random_batch(alloc, random, count)?;
+    if random.below(6) == 0 {
+        let vertices = writer.latest()?.graph.vertices();
+        batch.push(Entry::Grow(vertices.saturating_add(random.below(2) as u32)))?;
+    }
+    graph.commit(rt, alloc, writer, batch)?;
+    Ok(())
+}
+
+// Checks that a run that may follow the one before shows what a run from nothing shows, on the same version.
+fn check_run<J: Naming, R: Threads + Sync>(
+    rt: &R,
+    alloc: Global,
+    runs: &mut Runs<J>,
+    readers: (&mut Reader<J>, &mut Reader<J>),
+    workers: usize,
+    turns: u64,
+) -> Result<Checked, Fail> {
+    let (reader, other) = readers;
+    let (version, outcome) = run_latest_after(rt, alloc, runs, reader, workers, turns, &Open)?;
+    let (newest, wanted) = run_latest(rt, alloc, runs.plan(), other, 1, turns, &Open)?;
+    if version != newest {
+        return Ok(Err("the version"));
+    }
+    Ok(check_same(&outcome, &wanted))
+}
+
+// Checks the runs of a stream. Two readers take turns, and some versions have no run.
+fn check_stream<J: Naming, R: Threads + Wait + Sync>(
+    rt: &R,
+    alloc: Global,
+    graph: &SharedGraph<J, &R>,
+    readers: &mut Vec<Reader<J>>,
+    plan: Arc<Plan>,
+    seed: u64,
+) -> Result<Checked, Fail> {
+    let [writer, reader, other] = readers.as_mut_slice() else {
+        return Ok(Err("the readers"));
+    };
+    let mut random = Random::new(seed);
+    let mut runs = Runs::new(plan);
+    commit(rt, alloc, graph, writer, &mut random, FIRST)?;
+    for round in 0..BATCHES {
+        let turns = TURNS[random.below(3) as usize];
+        let workers = WORKERS[random.below(3) as usize];
+        let both = if round % 3 == 0 {
+            (&mut *other, &mut *reader)
+        } else {
+            (&mut *reader, &mut *other)
+        };
+        let checked = check_run(rt, alloc, &mut runs, both, workers, turns)?;
+        if checked.is_err() {
+            return Ok(checked);
+        }
+        for _ in 0..random.below(3) {
+            let count = random.below(3);
+            commit(rt, alloc, graph, writer, &mut random, count)?;
+        }
+        if round % 5 == 4 {
+            graph.trim(rt, writer)?;
+        }
+    }
+    Ok(Ok(()))
+}
+
+// Checks the runs of a stream on a graph of its own.
+fn check_opened<J: Naming, R: Threads + Wait + AllocGlobal + Sync>(
+    rt: &R,
+    opening: Opening,
+    vertices: u32,
+    plan: Arc<Plan>,
+    seed: u64,
+) -> Result<Checked, Fail>
+    requires book { opening ≡ J.book }
+    requires vertices { J.vertices ≡ vertices }
+    requires room { J.room ≡ 16777216 }
+{
+    let alloc = rt.alloc();
+    let (graph, mut readers) = SharedGraph::<J, &R>::open(rt, alloc, opening, vertices, 64, 3)?;
+    check_stream(rt, alloc, &graph, &mut readers, plan, seed)
+}
+
+// Checks the streams of a program.
+fn check_program<R: Threads + Wait + AllocGlobal + Sync>(
+    rt: &R,
+    (_, program, schedule): &Scheduled,
+) -> Result<Checked, Fail> {
+    let alloc = rt.alloc();
+    let mut text = String::new(alloc);
+    text.push_str(program)?;
+    text.push_str(schedule)?;
+    let plan = Arc::new(alloc, compile(alloc, text.as_bytes())?)?;
+    for seed in 0..STREAMS {
+        let checked = check_opened::<Brand, R>(rt, Opening::new(), VERTICES, plan.clone()?, seed)?;
+        if checked.is_err() {
+            return Ok(checked);
+        }
+    }
+    Ok(Ok(()))
+}
+
+#[test]
+fn runs_that_follow_show_what_runs_from_nothing_show(rt: HostRuntime) -> Result<(), Fail> {
+    for scheduled in &PROGRAMS {
+        let checked = check_program(&rt, scheduled)?;
+        assert!(rt; checked == Ok(()), "{}", scheduled.0);
+    }
+    Ok(())
+}
