@@ -5,6 +5,7 @@ use Rattle.std.specs.declared.io.Error.{Error}
 use Rattle.algorithm_meaning.specs.ProgramTree.{ProgramTree}
 use Rattle.driver.specs.declared.compiled_plan.CompiledPlan.{CompiledPlan}
 use Rattle.driver.specs.Reading.{tree_of, HoldPrograms, HoldsPlan, HoldsProgram, IsNoProgram, LacksProgram}
+use Rattle.std.specs.Arc.{arc_value}
 use Rattle.plans.specs.declared.plan.Plan.{Plan}
 use Rattle.plans.specs.PlanOf.{program_of}
 use Rattle.driver.specs.declared.error.ServeError.{ServeError}
@@ -17,6 +18,10 @@ holds_program holds plan held = record {
   held = held.held;
   compiled = record { typed = held.planned.typed; schedule = held.planned.schedule; accepted = held.planned.accepted };
 }
+
+-- and so is that of the plan as it is kept
+pub holds_kept : (holds : List ℕ → Type 0) (plan : Plan) (p : CompiledPlan) → arc_value p.plan ≡ plan → HoldsPlan holds plan → HoldsProgram holds (tree_of p)
+holds_kept holds plan p is held = subst (λ (q : Plan). HoldsProgram holds (program_of q)) (sym is) (holds_program holds plan held)
 
 -- some files of all were compiled: what is left to compile, and how that fails, makes up the whole
 pub record Compiles (holds : List ℕ → List ℕ → Type 0) (fails : List ℕ → Error → Type 0) (all left : List (List ℕ)) (programs : List ProgramTree) : Type 0 where

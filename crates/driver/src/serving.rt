@@ -1,7 +1,9 @@
 //! Requests served: scripts, checks, plans and races.
 
 ghost use Rattle.std.specs.Prelude.{◌≡◌, codes, map, IfOk};
+ghost use Rattle.std.specs.Arc.{arc_value};
 ghost use Rattle.std.specs.Str.{bytes_eq};
+ghost use Rattle.plans.specs.PlanOf.{IsCompiled};
 ghost use Rattle.crew.specs.Outcome.{AreWorkers};
 ghost use Rattle.driver.specs.inside.Programs.{MayFollow, ShowsRun};
 ghost use Rattle.scripts.specs.Script.{input as input_of, taken_by_writer, RunsScript};
@@ -249,11 +251,18 @@ pub(crate) fn compiled_files<'a, F: Files>(
     let mut compiled = Vec::new(alloc);
     'names: for name in names {
         let plan = compiled_file(alloc, name, files)?;
-        compiled.push(CompiledPlan {
-            plan: Arc::new(alloc, plan)?,
-        })?;
+        compiled.push(shared(alloc, plan)?)?;
     }
     Ok(compiled)
+}
+
+// The plan of a program that was compiled, to be shared. The only error is out of memory.
+fn shared(alloc: Global, plan: Plan) -> Result<CompiledPlan, AllocError>
+    requires { ∥ IsCompiled plan ∥₁ }
+    ensures { IfOk result (λ one. arc_value one.plan ≡ plan) }
+{
+    let plan = Arc::new(alloc, plan)?;
+    Ok(CompiledPlan { plan })
 }
 
 // The plan of the program in the file of this name.
