@@ -9,7 +9,8 @@ use Rattle.version_list.specs.declared.step.Reply.{Reply}
 use Rattle.version_list.specs.declared.step.Reply.TheVariants.{Version, Ticket, Released, Trimmed, Refused}
 use Rattle.version_list.specs.Machine.{State, changed, reply_to}
 use Rattle.version_records.specs.declared.version_records.VersionRecords.{VersionRecords}
-use Rattle.version_records.specs.VersionRecords.{AreRecordsOf, AreVersionsOf}
+use Rattle.version_records.specs.VersionRecords.{AreRecordsOf}
+use Rattle.version_records.specs.inside.Versions.{AreVersionsOf}
 use Rattle.version_records.proofs.Keeping.{AreRecordsOf-later, AreRecordsOf-none}
 use Rattle.scripts.specs.declared.commands.Command.{Command}
 use Rattle.scripts.specs.declared.commands.Command.TheVariants as command

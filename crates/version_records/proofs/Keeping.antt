@@ -6,6 +6,7 @@ use Rattle.version_list.specs.Machine.{State, newest_number, version_graph}
 use Rattle.version_flats.specs.VersionFlats.{IsKept}
 use Rattle.version_records.specs.declared.version_records.Predecessor.{Predecessor}
 use Rattle.version_records.specs.declared.version_records.VersionRecords.{VersionRecords}
+use Rattle.version_records.specs.inside.Versions.{AreVersionsOf}
 use Rattle.version_records.specs.VersionRecords.{AreRecordsOf, AreVersionsOf, HaveNone, IsOfFormer, IsPredecessor, MayKeep, MayLose}
 
 module _ {R : Type 0} (is_record : (program : ℕ) → R → Digraph → Type 0) where

@@ -1,1 +1,2 @@
 pub mod VersionRecords
+pub mod inside

@@ -1,19 +1,13 @@
 -- The records of runs on versions.
-use Rattle.std.specs.Prelude.{◌≡◌, ◌⊎◌, ℕ, ◌≤◌, nat_eq, List, Option, Some}
+use Rattle.std.specs.Prelude.{◌≡◌, ◌⊎◌, ℕ, ◌≤◌, nat_eq, Option, Some}
 use Rattle.indexmap.specs.IndexMap.{get}
 use Rattle.tree_batch.specs.Digraph.{Digraph}
-use Rattle.tree_batch.specs.Edge.{Ends}
 use Rattle.edge_differences.specs.Listed.{AreSameBut}
 use Rattle.version_list.specs.Machine.{State, newest_number, version_graph}
 use Rattle.version_records.specs.declared.version_records.VersionRecord.{VersionRecord}
 use Rattle.version_records.specs.declared.version_records.HeldRun.{HeldRun}
 use Rattle.version_records.specs.declared.version_records.Predecessor.{Predecessor}
 use Rattle.version_records.specs.declared.version_records.VersionRecords.{VersionRecords}
-
--- the newest version has as many vertices as version k and, but for the listed ones, the same edges
-pub record IsFormerOfNewest (s : State) (listed : List Ends) (k : ℕ) : Type 0 where
-  pub vertices : (version_graph s (newest_number s)).vertices ≡ (version_graph s k).vertices
-  pub edges : AreSameBut listed (version_graph s (newest_number s)).edges (version_graph s k).edges
 
 module _ {R : Type 0} where
   -- the record is that of the program's last run, which was on version k
@@ -65,8 +59,3 @@ module _ {R : Type 0} where
     pub is : is_record former.run_record.now former_graph
     pub vertices : former_graph.vertices ≡ graph.vertices
     pub edges : AreSameBut former.edges.items graph.edges former_graph.edges
-
--- the versions of the old state are those of the new one
-pub record AreVersionsOf (old new : State) : Type 0 where
-  pub made : newest_number old ≤ newest_number new
-  pub graphs : (k : ℕ) → k ≤ newest_number old → version_graph new k ≡ version_graph old k

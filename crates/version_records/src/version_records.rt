@@ -1,6 +1,7 @@
 //! The records of runs, by programs and by versions.
 ghost use Rattle.std.specs.Prelude.{IfSome};
-ghost use Rattle.version_records.specs.VersionRecords.{HasRecord, HaveNone, IsFormerOfNewest, IsOfFormer, IsOfHeld, MayKeep, MayLose};
+ghost use Rattle.version_records.specs.VersionRecords.{HasRecord, HaveNone, IsOfFormer, IsOfHeld, MayKeep, MayLose};
+ghost use Rattle.version_records.specs.inside.Versions.{IsFormerOfNewest};
 
 use indexmap::IndexMap;
 use std::alloc::Global;

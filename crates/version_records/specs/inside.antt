@@ -1,0 +1,2 @@
+-- What the code is made of: no public contract cites these definitions.
+pub mod Versions
