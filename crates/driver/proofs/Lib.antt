@@ -1,3 +1,4 @@
 mod Compiling
 mod Workers
 mod FileRaces
+pub mod Records

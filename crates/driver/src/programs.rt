@@ -1,8 +1,13 @@
 //! Programs that were compiled, as scripts run them.
-ghost use Rattle.std.specs.Prelude.{◌≡◌, map, IfOk};
+ghost use Rattle.std.specs.Prelude.{◌≡◌, ◌<◌, true, map, length, Some, IfOk, IfSome};
+ghost use Rattle.std.specs.Arc.{arc_value};
+ghost use Rattle.std.specs.List.{slice_get};
+ghost use Rattle.algorithm_meaning.specs.ProgramTree.{ProgramTree};
 ghost use Rattle.crew.specs.Outcome.{AreWorkers};
+ghost use Rattle.scripts.specs.Replies.{is_worker_count, meaning_on};
+ghost use Rattle.version_records.specs.VersionRecords.{IsPredecessor};
 ghost use Rattle.driver.specs.Reading.{tree_of};
-ghost use Rattle.driver.specs.inside.Programs.{IsRecordOfProgram, MayFollow, ShowsRun};
+ghost use Rattle.driver.specs.inside.Programs.{AreSameFormer, IsRecordOfProgram, MayFollow, ShowsRun};
 
 use crate::compiled_plan::CompiledPlan;
 use crate::first_fault::FirstFault;
@@ -113,8 +118,17 @@ impl<F: Fn(Global, RunOrder<'_>) -> Result<RecordedRun, AllocError>> Programs
         turns: u64,
         workers: u64,
         former: Option<Predecessor<'_, RunRecord>>,
-    ) -> Result<ProgramRun<RunRecord>, AllocError> {
-        let former = former.as_ref().map(record_of);
+    ) -> Result<ProgramRun<RunRecord>, AllocError>
+        requires ready { ((alloc : _) (order : _) → AreWorkers order.workers → MayFollow order → F.pre self.now.by alloc order)
+            × ((alloc : _) (order : _) (r : _) → F.post self.now.by alloc order r → IfOk r (ShowsRun order)) }
+        requires index { index < length (map tree_of self.now.plans.items) }
+        requires workers { is_worker_count workers ≡ true }
+        requires former { IfSome former (IsPredecessor (IsRecordOfProgram self.now.plans.items index) (arc_value graph.now)) }
+        ensures outcome { IfOk result (λ run. (program : ProgramTree) → slice_get (map tree_of self.now.plans.items) index ≡ Some program
+            → run.outcome ≡ meaning_on (arc_value graph.now) program turns) }
+        ensures kept { IfOk result (λ run. IfSome run.run_record (λ r. IsRecordOfProgram self.now.plans.items index r (arc_value graph.now))) }
+    {
+        let former = former_of(&former);
         let order = RunOrder {
             program: index,
             plan: &self.plans[index].plan,
@@ -143,12 +157,14 @@ impl<F: Fn(Global, RunOrder<'_>) -> Result<RecordedRun, AllocError>> Programs
 }
 
 // A former record as runs take it.
-fn record_of<'a>(former: &'a Predecessor<'_, RunRecord>) -> FormerRecord<'a>
-    ensures run_record { result.run_record.now ≡ former.now.run_record.now }
-    ensures edges { result.edges.now ≡ former.now.edges.items }
+fn former_of<'a>(former: &'a Option<Predecessor<'_, RunRecord>>) -> Option<FormerRecord<'a>>
+    ensures { AreSameFormer former.now result }
 {
-    FormerRecord {
-        run_record: former.run_record,
-        edges: &former.edges,
+    match former {
+        None => None,
+        Some(former) => Some(FormerRecord {
+            run_record: former.run_record,
+            edges: &former.edges,
+        }),
     }
 }

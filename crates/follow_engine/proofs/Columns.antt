@@ -1,11 +1,12 @@
 -- What edges give a vertex for one vector: the edges that count, and those that may be left out.
-use Rattle.std.proofs.Common.{◌≡◌, ℕ, ◌==◌, Bool, true, false, cond, ◌&&◌, ◌||◌, List, [], ◌∷◌, ◌++◌, refl, sym, ap, ap₂, ◌∙◌}
+use Rattle.std.proofs.Common.{◌≡◌, ℕ, ◌==◌, Bool, true, false, cond, ◌&&◌, ◌||◌, List, [], ◌∷◌, ◌++◌, refl, sym, ap, ap₂, ◌∙◌, length, arith}
 use Rattle.std.proofs.lemmas.Bool.Decides.{Decides-eqb}
 use Rattle.std.specs.List.{filter}
 use Rattle.weighted_edges.specs.Edge.{Edge}
 use Rattle.algorithm_meaning.specs.declared.contribution.Contribution.{Contribution}
 use Rattle.kernels.specs.FunctionStatementTree.{FunctionStatementsTree}
-use Rattle.kernels.specs.EdgeApply.{all_give}
+use Rattle.kernels.specs.EdgeApply.{all_give, is_member}
+use Rattle.edge_fold.specs.Between.{edges_between}
 use Rattle.algorithm_meaning.specs.EdgeApply.{for_vector}
 use Rattle.kernels.specs.Laws.{given_to}
 use Rattle.kernels.specs.State.{StateValue}
@@ -115,3 +116,16 @@ filter_both p q (e ∷ es) = both_at p q e (filter q es) (filter (λ f. p f && q
 pub none_pass : (es : List Edge) → filter (λ e. false) es ≡ []
 none_pass [] = refl
 none_pass (e ∷ es) = none_pass es
+
+and_false : (b : Bool) → (b && false) ≡ false
+and_false true = refl
+and_false false = refl
+
+none_pass_both : (from : ℕ → Bool) (es : List Edge) → filter (λ e. from e.0 && false) es ≡ []
+none_pass_both from [] = refl
+none_pass_both from (e ∷ es) = rw (and_false (from e.0)) (none_pass_both from es)
+
+-- no edge leads to one of no destinations
+pub none_among : (from : ℕ → Bool) (vs : List ℕ) (es : List Edge) → length vs ≡ 0 → edges_between from (λ v. is_member v vs) es ≡ []
+none_among from [] es none = none_pass_both from es
+none_among from (v ∷ vs) es none = absurd (omega (arith, none))

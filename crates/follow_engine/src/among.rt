@@ -67,7 +67,8 @@ pub(crate) fn fits_budget(flat: &Flat, destinations: &[u32], budget: usize) -> b
     true
 }
 
-/// What an apply to the edges into these destinations changes. The only error is out of memory.
+/// What an apply to the edges into these destinations changes. If there is none, it takes constant time; else it takes that of a pull
+/// into a set. The only error is out of memory.
 pub(crate) fn pull_among(
     alloc: Global,
     apply: &Apply<'_>,
@@ -77,6 +78,10 @@ pub(crate) fn pull_among(
     ensures once { IfOk result (λ c. AreApart c.vectors.items) }
     ensures changes { IfOk result (λ c. ArePulledAmong apply.now destinations.now c.vectors.items) }
 {
+    if destinations.is_empty() {
+        let vectors = Vec::new(alloc);
+        return Ok(Changes { vectors });
+    }
     let set = set_of(alloc, apply.flat.vertices(), destinations)?;
     let to = Some(EndpointFilter::Members(&set));
     pull(alloc, &Apply { to, ..*apply }, scratch)

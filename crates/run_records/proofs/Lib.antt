@@ -8,3 +8,4 @@ pub mod Known
 pub mod Beside
 pub mod Meant
 pub mod Showing
+pub mod SideBySide

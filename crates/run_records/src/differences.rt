@@ -1,11 +1,10 @@
 //! In what an apply may differ from a recorded one.
-ghost use Rattle.std.specs.Prelude.{◌≡◌, ◌++◌, ◌∷◌, [], if◌then◌else◌, ℕ, not, true, false, Some, IfOk, IfSome, OnOk};
+ghost use Rattle.std.specs.Prelude.{◌≡◌, ◌+◌, ◌<◌, ◌≤◌, ◌^◌, ℕ, true, false, Some, IfOk, IfSome, OnOk};
 ghost use Rattle.kernels.specs.declared.endpoint_filter.EndpointFilter.TheVariants as end;
-ghost use Rattle.std.specs.List.{filter};
 ghost use Rattle.kernels.specs.EdgeApply.{is_member};
 ghost use Rattle.kernels.specs.Local.{is_local_code};
 ghost use Rattle.follow_engine.specs.Following.{AreEndsBut};
-ghost use Rattle.run_records.specs.inside.Ends.{AreOfOneKind};
+ghost use Rattle.run_records.specs.inside.Ends.{AreOfOneKind, IsApart};
 
 use kernels::{EndpointFilter, FilterKernel};
 use std::alloc::{AllocError, Global};
@@ -54,7 +53,8 @@ fn set_differences(
     }
 }
 
-/// The vertices that are members of one of two sets, and not of both. The only error is out of memory.
+/// The vertices that are members of one of two sets, and not of both. It takes the time of going over both. The only error is out
+/// of memory.
 pub(crate) fn members_of_one(
     alloc: Global,
     set: &VertexSet,
@@ -62,28 +62,59 @@ pub(crate) fn members_of_one(
 ) -> Result<Vec<u32>, AllocError>
     ensures { IfOk result (λ found. (v : ℕ) → is_member v found.items ≡ false → is_member v set.now.members ≡ is_member v other.now.members) }
 {
+    let first = listed(alloc, set)?;
+    let second = listed(alloc, other)?;
+    numbers_of_one(alloc, &first, &second)
+}
+
+/// The members of a set, in a list. The only error is out of memory.
+fn listed(alloc: Global, set: &VertexSet) -> Result<Vec<u32>, AllocError>
+    ensures { IfOk result (λ list. list.items ≡ set.now.members) }
+{
+    let mut list = Vec::with_capacity(alloc, set.len())?;
+    'members: for member in set.iter() {
+        list.push(member)?;
+    }
+    Ok(list)
+}
+
+/// The numbers of one of two ascending lists that are not in the other. If the lists do not ascend, there may be more. The only error
+/// is out of memory.
+fn numbers_of_one(alloc: Global, first: &[u32], second: &[u32]) -> Result<Vec<u32>, AllocError>
+    ensures { IfOk result (λ found. (v : ℕ) → is_member v found.items ≡ false → is_member v first.now ≡ is_member v second.now) }
+{
     let mut found = Vec::new(alloc);
-    push_missing(set, other, &mut found)?;
-    push_missing(other, set, &mut found)?;
+    let (mut left, mut right) = (0usize, 0usize);
+    'numbers: while left < first.len() && right < second.len() {
+        let (one, other) = (first[left], second[right]);
+        push_lesser(one, other, &mut found)?;
+        left = advanced(left, one, other);
+        right = advanced(right, other, one);
+    }
+    found.extend_from_slice(&first[left..])?;
+    found.extend_from_slice(&second[right..])?;
     Ok(found)
 }
 
-/// Appends the members of a set that are no members of another one, in ascending order. The only error is out of memory.
-fn push_missing(set: &VertexSet, other: &VertexSet, found: &mut Vec<u32>) -> Result<(), AllocError>
-    ensures { OnOk result (found.new.items ≡ found.old.items ++ filter (λ v. not (is_member v other.now.members)) set.now.members) }
+/// The index after this one if the number there is not greater than another, and else this index.
+fn advanced(index: usize, number: u32, other: u32) -> usize
+    requires { index + 1 < 2 ^ 64 }
+    ensures next { number ≤ other → result ≡ index + 1 }
+    ensures same { other < number → result ≡ index }
 {
-    'members: for member in set.iter() {
-        push_unless(other.contains(member), member, found)?;
-    }
-    Ok(())
+    if number <= other { index + 1 } else { index }
 }
 
-/// Appends a vertex unless it is left out. The only error is out of memory.
-fn push_unless(is_out: bool, vertex: u32, found: &mut Vec<u32>) -> Result<(), AllocError>
-    ensures { OnOk result (found.new.items ≡ found.old.items ++ (if is_out then [] else vertex ∷ [])) }
+/// Appends the lesser of two numbers, and none if they are the same. The only error is out of memory.
+fn push_lesser(one: u32, other: u32, found: &mut Vec<u32>) -> Result<(), AllocError>
+    ensures { OnOk result ((v : ℕ) → is_member v found.new.items ≡ false → IsApart one other v × (is_member v found.old.items ≡ false)) }
 {
-    if !is_out {
-        found.push(vertex)?;
+    if one < other {
+        found.push(one)?;
+        return Ok(());
+    }
+    if other < one {
+        found.push(other)?;
     }
     Ok(())
 }

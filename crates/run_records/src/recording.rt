@@ -25,6 +25,9 @@ pub(crate) struct Recording {
     room: usize,
 }
 
+/// How many bytes an apply of a record takes at most beside its changes and its sets, with what its lists take for themselves.
+const BYTES_OF_APPLY: usize = 1_024;
+
 /// How many bytes the record of a run on a graph of so many vertices may take: 32 for each vertex, and 1 MB.
 pub fn room_of_record(vertices: u32) -> usize {
     32 * vertices as usize + 1_048_576
@@ -73,7 +76,9 @@ impl Recording {
         let sources = kept_set(alloc, apply.from)?;
         let destinations = kept_set(alloc, apply.to)?;
         let of_sets = bytes_of_set(&sources).saturating_add(bytes_of_set(&destinations));
-        let bytes = bytes_of(changes).saturating_add(of_sets);
+        let bytes = bytes_of(changes)
+            .saturating_add(of_sets)
+            .saturating_add(BYTES_OF_APPLY);
         if self.room < bytes {
             return Err(AllocError);
         }

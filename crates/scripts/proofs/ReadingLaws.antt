@@ -2,8 +2,10 @@
 use Rattle.std.proofs.Common.{◌≡◌, ℕ, ◌<◌, length, Option, None, List, [], ◌∷◌, ◌++◌, refl, sym, ap, ◌∙◌, subst, arith, append_assoc, append-nil}
 use Rattle.algorithm_meaning.specs.ProgramTree.{ProgramTree}
 use Rattle.replies.specs.declared.send_error.SendError.{SendError}
+use Rattle.scripts.specs.declared.commands.Command.{Command}
+use Rattle.scripts.specs.declared.commands.Command.TheVariants as command
 use Rattle.scripts.specs.Commands.{command_of, HasNone, ended_lines, unended_line}
-use Rattle.scripts.specs.Replies.{OpenState, answer, by_command, replies, replies_to_lines, replies_to_ended, state_after_lines, faults, has_faulted}
+use Rattle.scripts.specs.Replies.{OpenState, answer, by_command, replies, replies_to_lines, replies_to_ended, state_after_lines, faults, has_faulted, refused, unopened}
 use Rattle.replies.specs.declared.send_error.SendError.TheVariants.{NoMemory}
 use Rattle.replies.specs.Sending.{Output, Sends, Fails}
 use Rattle.scripts.specs.Script.{Reading}
@@ -142,3 +144,15 @@ module _ (programs : List ProgramTree) (old : Reading) (bytes : List ℕ) (a : O
         let whole : (t.text ++ reply) ++ replies_within programs answered after ≡ replies_within programs old bytes =
         append_assoc t.text reply (replies_within programs answered after) ∙ ap (λ xs. t.text ++ xs) (sym line_first) ∙ sym t.replies in
         subst (λ u. Fails a c u e) whole (fails_more a c (t.text ++ reply) (replies_within programs answered after) e (fails_then a b c t.text reply e t.sends fails))
+
+-- only `vertices` opens a graph
+pub nothing_opened : (c : Command) → ((n b : ℕ) → c ≡ command.Vertices n b → ⊥) → unopened c ≡ refused None 801
+nothing_opened (command.Vertices n b) not = absurd (not n b refl)
+nothing_opened (command.Add source destination weight) not = refl
+nothing_opened (command.Remove source destination) not = refl
+nothing_opened (command.Grow vertices) not = refl
+nothing_opened command.Commit not = refl
+nothing_opened (command.Hold version) not = refl
+nothing_opened (command.Release ticket) not = refl
+nothing_opened (command.Edges ticket) not = refl
+nothing_opened (command.Run program turns workers ticket) not = refl

@@ -1,6 +1,7 @@
 //! Scripts over devices that are interrupted and go some bytes at a time, and runs that note by how many workers they go. What devices
 //! of the system show is in `tests/checks/failing_devices`.
-ghost use Rattle.std.specs.Prelude.{[], ◌∷◌};
+ghost use Rattle.std.specs.Prelude.{◌≡◌, [], ◌∷◌, true, IfOk, IfSome};
+ghost use Rattle.scripts.specs.Replies.{is_worker_count};
 ghost use Rattle.test_library.specs.inside.Programs.{empty_program};
 
 use devices::Device;
@@ -24,8 +25,12 @@ impl StarvedProgram {
     }
 }
 
+/// No run leaves one behind.
+#[derive(Drop)]
+pub(crate) struct NoRecord;
+
 impl Programs for StarvedProgram {
-    type Record = u64;
+    type Record = NoRecord;
 
     ghost trees = { λ _. empty_program ∷ [] };
 
@@ -44,8 +49,12 @@ impl Programs for StarvedProgram {
         _graph: &Arc<Flat>,
         _turns: u64,
         workers: u64,
-        _former: Option<Predecessor<'_, u64>>,
-    ) -> Result<ProgramRun<u64>, AllocError> {
+        _former: Option<Predecessor<'_, NoRecord>>,
+    ) -> Result<ProgramRun<NoRecord>, AllocError>
+        requires workers { is_worker_count workers ≡ true }
+        ensures outcome { IfOk result (λ run. ⊥) }
+        ensures kept { IfOk result (λ run. IfSome run.run_record (λ r. ⊥)) }
+    {
         self.0.store(workers, Ordering::SeqCst);
         Err(AllocError)
     }

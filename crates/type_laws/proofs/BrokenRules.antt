@@ -14,8 +14,9 @@ use Rattle.typed_tree.specs.ProgramTree.{ProgramTree}
 use Rattle.expression_types.specs.Expression.{index_lacks_value}
 use Rattle.expression_types.specs.Least.{IsAtMost}
 use Rattle.expression_types.specs.ScopeTree.{ScopeTree}
-use Rattle.types.specs.Checker.{CheckerTree, declared_in}
-use Rattle.types.specs.Declaration.{DeclaredTree, FunctionKindTree, MainKind, EdgeKind, VertexKind, FilterKind, NoKind, declaration_typed, kind, parameter}
+use Rattle.initializer_types.specs.Checker.{CheckerTree, declared_in}
+use Rattle.initializer_types.specs.DeclarationForms.{FunctionKindTree, MainKind, EdgeKind, VertexKind, FilterKind, NoKind, kind}
+use Rattle.types.specs.Declaration.{DeclaredTree, declaration_typed, parameter}
 use Rattle.types.specs.Program.{Checks, program_of}
 use Rattle.expression_types.proofs.LeastLaws.{told_is_least}
 use Rattle.type_laws.specs.BrokenRules.{Breaks, BreaksNoRule, BreaksRule, IsLeastBroken}

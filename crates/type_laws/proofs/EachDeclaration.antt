@@ -6,8 +6,9 @@ use Rattle.std.proofs.lemmas.Slice.Eq.{bytes_eq-Decides}
 use Rattle.syntax.specs.Terminals.{Identifier}
 use Rattle.syntax.specs.SourceTrees as source
 use Rattle.syntax.specs.SourceTrees.{ParameterTree, DeclarationTree}
-use Rattle.types.specs.Declaration.{DeclaredTree, FunctionKindTree, MainKind, EdgeKind, VertexKind, FilterKind, NoKind, declaration_typed, declarations_typed, declare_function, is_bool_type}
-use Rattle.types.specs.Declaration.{is_vertex_type, kind_of, main_bytes, main_declared, steps_declared, takes_nothing, is_int_type}
+use Rattle.initializer_types.specs.DeclarationForms.{FunctionKindTree, MainKind, EdgeKind, VertexKind, FilterKind, NoKind, is_bool_type}
+use Rattle.types.specs.Declaration.{DeclaredTree, declaration_typed, declarations_typed, declare_function, main_declared, steps_declared}
+use Rattle.initializer_types.specs.DeclarationForms.{is_vertex_type, kind_of, main_bytes, takes_nothing, is_int_type}
 use Rattle.type_laws.proofs.Faultless.{no_left, no_right}
 
 -- what holds of each declaration, where something is known before it and after it

@@ -19,8 +19,8 @@ use Rattle.expression_types.specs.declared.scope.Inside.TheVariants as inside
 use Rattle.expression_types.specs.Expression.{index_value, value_of, vector_index}
 use Rattle.expression_types.specs.ScopeTree.{found}
 use Rattle.expression_types.specs.ValueTree.{ValueTree, Integer, Condition, Vertex, Set, ErrorValue}
-use Rattle.types.specs.Checker.{CheckerTree, with_label, new_label, condition_in, integer_in}
-use Rattle.types.specs.Initial.{InitializerTree, initializer_of}
+use Rattle.initializer_types.specs.Checker.{CheckerTree, with_label, new_label, condition_in, integer_in}
+use Rattle.initializer_types.specs.Initial.{InitializerTree, initializer_of}
 use Rattle.types.specs.Step.{at_own, declare_step_as, may_reduce, one_reduction, own_vertex, reduce_entry_step, reduced_as, reduction_step, same_endpoint, same_reduction, step_after, step_typed}
 use Rattle.types.specs.Step.{steps_after, steps_typed, written_at, written_with}
 use Rattle.type_laws.proofs.ClearValues.{IsClear}

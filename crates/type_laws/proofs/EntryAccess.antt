@@ -19,11 +19,11 @@ use Rattle.expression_types.specs.Operators.{entry_value, function_entry, main_e
 use Rattle.expression_types.specs.ScopeTree.{ScopeTree}
 use Rattle.expression_types.specs.ValueTree.{ValueTree, Integer, Condition, Vertex, Set, ErrorValue, condition_reads_entry, reads_entry}
 use Rattle.types.specs.Block.{action_typed, then_statement, closed, statements_typed}
-use Rattle.types.specs.Checker.{CheckerTree, counted, declared_in, integer_slot, with_label, restarted, as_index, condition_in, integer_in, no_index}
-use Rattle.types.specs.Declaration.{DeclaredTree, FunctionKindTree, MainKind, EdgeKind, VertexKind, FilterKind, NoKind, declaration_typed, declarations_typed, inside_of, is_bool_type, is_vertex_type}
-use Rattle.types.specs.Declaration.{kind_fits, kind_of, main_declared, opened, steps_declared, takes_nothing, is_int_type, takes_weight}
+use Rattle.initializer_types.specs.Checker.{CheckerTree, counted, declared_in, integer_slot, with_label, restarted, as_index, condition_in, integer_in, no_index}
+use Rattle.initializer_types.specs.DeclarationForms.{FunctionKindTree, MainKind, EdgeKind, VertexKind, FilterKind, NoKind, is_bool_type, is_vertex_type, kind_of, takes_nothing, is_int_type}
+use Rattle.types.specs.Declaration.{DeclaredTree, declaration_typed, declarations_typed, inside_of, kind_fits, main_declared, opened, steps_declared, takes_weight}
 use Rattle.type_laws.specs.EntryAccess.{AccessesEntriesWell, AccessesOwnVertices, ActionAccesses, BlockAccesses, ExpressionReadsAt, HasNoEntry, InitialReadsAt, IsNameAmong}
-use Rattle.types.specs.Initial.{initializer_of}
+use Rattle.initializer_types.specs.Initial.{initializer_of}
 use Rattle.types.specs.Program.{no_declarations, program_of, set_count}
 use Rattle.types.specs.Statement.{add_vertex, assign, print, reduce, reduce_entry, set_entry}
 use Rattle.types.specs.Step.{assign_step, at_own, may_reduce, may_set, own_vertex, reduce_step, same_endpoint, set_entry_step, step_after, step_typed, steps_after, steps_typed, written_at}

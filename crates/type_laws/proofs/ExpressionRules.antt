@@ -35,7 +35,7 @@ use Rattle.expression_types.specs.Operators.{beside_integer, compared_value, con
 use Rattle.expression_types.specs.Operators.{multiplied, related_value, signed_value}
 use Rattle.expression_types.specs.ValueTree.{ValueTree, Integer, Condition, Vertex, Set, ErrorValue, condition_reads_entry, is_error, entity_set, named_value, named_vector, reads_entry}
 use Rattle.expression_types.specs.Faults.{WithFaults, fault_at, sure}
-use Rattle.types.specs.Initial.{names_error}
+use Rattle.initializer_types.specs.Initial.{names_error}
 use Rattle.type_laws.specs.ExpressionRules.{all_bools, all_ints, is_bool, is_int, may_be_index, own_faults, takes, takes_index, takes_sign}
 use Rattle.type_laws.specs.ExpressionParts.{Form, Expression, Conjunction, Comparison, Sum, Term, Unary, Primary, Index, Name, any_faulty, conjuncts_of, disjuncts_of, factors_of, faults_of_all}
 use Rattle.type_laws.specs.ExpressionParts.{form_faults, parts, summands_of}

@@ -20,12 +20,11 @@ use Rattle.expression_types.specs.ValueTree as value
 use Rattle.expression_types.specs.ValueTree.{ValueTree, entity_set}
 use Rattle.expression_types.specs.Faults.{WithFaults, fault_at, sure}
 use Rattle.types.specs.Block.{then_statement}
-use Rattle.types.specs.Checker.{CheckerTree, condition_wanted, integer_wanted, as_members, condition_in}
-use Rattle.types.specs.Checker.{integer_in}
-use Rattle.types.specs.Initial as initial_value
-use Rattle.types.specs.Initial.{ApplyEndTree, Degrees, ErrorInitializer, InitializerTree, Loaded, edge_function, apply_end_of, ends_given, filter_function, filter_named}
-use Rattle.types.specs.Initial.{filtered_set, filtered_by, initializer_condition, initializer_integer, initializer_members, initializer_of, is_edges, is_error_end, is_wrong, lacks_weights, loaded}
-use Rattle.types.specs.Initial.{initial_modified, modified_by, names_error, new_set, of_edges, takes_edge_weight, vector_of, writes_vector}
+use Rattle.initializer_types.specs.Checker.{CheckerTree, condition_wanted, integer_wanted, as_members, condition_in, integer_in}
+use Rattle.initializer_types.specs.Initial as initial_value
+use Rattle.initializer_types.specs.Initial.{ApplyEndTree, Degrees, ErrorInitializer, InitializerTree, Loaded, edge_function, apply_end_of, ends_given, filter_function, filter_named}
+use Rattle.initializer_types.specs.Initial.{filtered_set, filtered_by, initializer_condition, initializer_integer, initializer_members, initializer_of, is_edges, is_error_end, is_wrong, lacks_weights, loaded}
+use Rattle.initializer_types.specs.Initial.{initial_modified, modified_by, names_error, new_set, of_edges, takes_edge_weight, vector_of, writes_vector}
 use Rattle.type_laws.specs.ExpressionTypes.{ExpressionHas, ExpressionType, IsNumberExpression, IsTruth, NameHas, Number, Set, Truth, Vertex, type_named}
 use Rattle.type_laws.specs.KeptRules.{EndFits, EndsFit, GivesMembers}
 use Rattle.type_laws.specs.KeptRules.{GivesNumber, GivesTruth, Modifies, SeesWeights}

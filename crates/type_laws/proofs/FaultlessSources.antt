@@ -27,15 +27,15 @@ use Rattle.expression_types.specs.ValueTree as value
 use Rattle.expression_types.specs.ValueTree.{ValueTree, is_error, entity_set}
 use Rattle.expression_types.specs.Faults.{WithFaults, fault_at, sure}
 use Rattle.types.specs.Block.{statements_typed}
-use Rattle.types.specs.Checker.{CheckerTree, condition_slot, declared_in, restarted, in_scope}
-use Rattle.types.specs.Declaration.{DeclaredTree, EdgeKind, FilterKind, MainKind, NoKind, VertexKind, begins, declaration_typed, declarations_typed, declare_constant_as, declare_function}
-use Rattle.types.specs.Declaration.{declare_name, has_all, is_bool_type, is_vertex_type, kind_of, literal_or_fault, loads, main_bytes, main_declared, next_name, only_edges, opened, parameter}
-use Rattle.types.specs.Declaration.{steps_declared, takes_nothing, wanted, is_int_type}
-use Rattle.types.specs.Initial as initial_value
-use Rattle.types.specs.Initial.{ApplyEndTree, Degrees, ErrorInitializer, InitializerTree, Loaded, apply_end_of, edge_function, ends_given, filter_function, filtered_set, filtered_by, initializer_of}
-use Rattle.types.specs.Initial.{is_all, is_degrees, is_edges, is_error_end, is_loaded, is_sound, is_wrong, loaded, initial_modified, modified_by, names_error, new_set, of_edges, vector_of}
-use Rattle.types.specs.Initial.{writes_vector, lacks_weights}
-use Rattle.types.specs.Literal.{literal_condition, literal_integer}
+use Rattle.initializer_types.specs.Checker.{CheckerTree, condition_slot, declared_in, restarted, in_scope}
+use Rattle.initializer_types.specs.DeclarationForms.{EdgeKind, FilterKind, MainKind, NoKind, VertexKind, is_bool_type, is_vertex_type, kind_of, main_bytes, takes_nothing, is_int_type}
+use Rattle.types.specs.Declaration.{DeclaredTree, begins, declaration_typed, declarations_typed, declare_constant_as, declare_function}
+use Rattle.types.specs.Declaration.{declare_name, has_all, literal_or_fault, loads, main_declared, next_name, only_edges, opened, parameter, steps_declared, wanted}
+use Rattle.initializer_types.specs.Initial as initial_value
+use Rattle.initializer_types.specs.Initial.{ApplyEndTree, Degrees, ErrorInitializer, InitializerTree, Loaded, apply_end_of, edge_function, ends_given, filter_function, filtered_set, filtered_by, initializer_of}
+use Rattle.initializer_types.specs.Initial.{is_all, is_degrees, is_edges, is_error_end, is_loaded, is_sound, is_wrong, loaded, initial_modified, modified_by, names_error, new_set, of_edges, vector_of}
+use Rattle.initializer_types.specs.Initial.{writes_vector, lacks_weights}
+use Rattle.initializer_types.specs.DeclarationForms.{literal_condition, literal_integer}
 use Rattle.types.specs.Program.{main_of, no_declarations, program_of, set_count}
 use Rattle.types.specs.Step.{steps_typed}
 use Rattle.type_laws.specs.ExpressionTypes.{ExpressionType, Number, Set, Truth, Vertex}

@@ -29,12 +29,11 @@ use Rattle.expression_types.specs.ValueTree as value
 use Rattle.expression_types.specs.ValueTree.{ValueTree, condition_reads_entry, entity_set, reads_entry}
 use Rattle.expression_types.specs.Faults.{fault_at, sure}
 use Rattle.types.specs.Block.{action_typed, then_statement, closed, statements_typed}
-use Rattle.types.specs.Checker.{CheckerTree, condition_slot, counted, declared_in, integer_slot, with_label, new_label, set_slot, as_index, integer_wanted, condition_in}
-use Rattle.types.specs.Checker.{integer_in, no_index}
-use Rattle.types.specs.Initial as initial_value
-use Rattle.types.specs.Initial.{ApplyEndTree, edge_function, apply_end_of}
-use Rattle.types.specs.Initial.{initializer_condition, initializer_integer, initializer_members, initializer_of, is_edges, is_wrong, lacks_weights}
-use Rattle.types.specs.Initial.{names_error}
+use Rattle.initializer_types.specs.Checker.{CheckerTree, condition_slot, counted, declared_in, integer_slot, with_label, new_label, set_slot, as_index, integer_wanted, condition_in}
+use Rattle.initializer_types.specs.Checker.{integer_in, no_index}
+use Rattle.initializer_types.specs.Initial as initial_value
+use Rattle.initializer_types.specs.Initial.{ApplyEndTree, edge_function, apply_end_of}
+use Rattle.initializer_types.specs.Initial.{initializer_condition, initializer_integer, initializer_members, initializer_of, is_edges, is_wrong, lacks_weights, names_error}
 use Rattle.types.specs.Statement.{add_vertex, added_to_set, apply, assign, assigned, declare_variable, edges_applied, has_ends, print, printed, reduce, reduce_entry, reduced, set_applied}
 use Rattle.types.specs.Statement.{set_entry, vertices_applied}
 use Rattle.types.specs.Statement as statement

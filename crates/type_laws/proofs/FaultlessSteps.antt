@@ -20,8 +20,8 @@ use Rattle.expression_types.specs.ScopeTree.{found}
 use Rattle.expression_types.specs.ValueTree as value
 use Rattle.expression_types.specs.ValueTree.{ValueTree}
 use Rattle.expression_types.specs.Faults.{WithFaults, sure}
-use Rattle.types.specs.Checker.{CheckerTree, condition_slot, declared_in, integer_slot, with_label, integer_wanted, condition_in, integer_in}
-use Rattle.types.specs.Initial.{initializer_condition, initializer_integer, initializer_of}
+use Rattle.initializer_types.specs.Checker.{CheckerTree, condition_slot, declared_in, integer_slot, with_label, integer_wanted, condition_in, integer_in}
+use Rattle.initializer_types.specs.Initial.{initializer_condition, initializer_integer, initializer_of}
 use Rattle.types.specs.Step.{assign_step, assigned_step, at_own, declare_step, may_reduce, may_set, own_vertex, reduce_entry_step, reduce_step, reduced_as, reduced_step, same_endpoint, same_reduction}
 use Rattle.types.specs.Step.{set_entry_step, step_after, step_typed, steps_after, steps_typed, written_at, written_with}
 use Rattle.type_laws.specs.ExpressionTypes.{ExpressionHas, ExpressionType, IsNumberExpression, Number, Set, Truth, Vertex}

@@ -25,7 +25,7 @@ use Rattle.expression_types.specs.Operators.{beside_integer, condition_index, en
 use Rattle.expression_types.specs.Operators.{main_entry, multiplied, related_value, signed_value}
 use Rattle.expression_types.specs.ValueTree.{ValueTree, Integer, Condition, Vertex, Set, ErrorValue, condition_reads_entry, is_error, entity_set, named_value, named_vector, reads_entry}
 use Rattle.expression_types.specs.Faults.{WithFaults, fault_at, sure, ◌>>=◌}
-use Rattle.types.specs.Initial.{names_error}
+use Rattle.initializer_types.specs.Initial.{names_error}
 use Rattle.type_laws.specs.ExpressionParts.{Form, Expression, Conjunction, Comparison, Sum, Term, Unary, Primary, Index, Name, any_faulty, conjuncts_of, disjuncts_of, factors_of, form_faults}
 use Rattle.type_laws.specs.ExpressionParts.{is_faulty, summands_of}
 use Rattle.type_laws.proofs.Faultless.{both_none}

@@ -29,8 +29,8 @@ use Rattle.expression_types.specs.Operators.{multiplied, related_value, signed_v
 use Rattle.expression_types.specs.ScopeTree.{ScopeTree}
 use Rattle.expression_types.specs.ValueTree.{ValueTree, Integer, Condition, Vertex, Set, ErrorValue, is_error, named_value}
 use Rattle.expression_types.specs.Faults.{WithFaults, sure}
-use Rattle.types.specs.Checker.{CheckerTree}
-use Rattle.types.specs.Initial.{ErrorInitializer, InitializerTree, apply_end_of, filter_named, initializer_of, is_error_end, is_sound, names_error}
+use Rattle.initializer_types.specs.Checker.{CheckerTree}
+use Rattle.initializer_types.specs.Initial.{ErrorInitializer, InitializerTree, apply_end_of, filter_named, initializer_of, is_error_end, is_sound, names_error}
 use Rattle.type_laws.specs.SourceParts.{initial_forms, name_before}
 use Rattle.type_laws.specs.ExpressionParts.{Form, Expression, Conjunction, Comparison, Sum, Term, Unary, Primary, Index, Name, any_faulty, conjuncts_of, disjuncts_of, factors_of, faults_of_all}
 use Rattle.type_laws.specs.ExpressionParts.{form_faults, is_faulty, parts, summands_of}

@@ -9,10 +9,10 @@ use Rattle.typed_tree.specs.FunctionStatementTree.{FunctionStatementsTree, NoSte
 use Rattle.expression_types.specs.declared.scope.Entity.TheVariants as entity
 use Rattle.expression_types.specs.Expression.{used_name}
 use Rattle.types.specs.Block.{action_typed, then_statement, closed, statements_typed}
-use Rattle.types.specs.Checker.{CheckerTree, counted, declared_in, integer_slot, with_label, restarted, condition_in, integer_in}
-use Rattle.types.specs.Declaration.{DeclaredTree, FunctionKindTree, MainKind, EdgeKind, VertexKind, FilterKind, NoKind, declaration_typed, declarations_typed, declare_function, kind, kind_fits}
-use Rattle.types.specs.Declaration.{main_declared, opened, steps_declared}
-use Rattle.types.specs.Initial.{initializer_of, loaded, new_set}
+use Rattle.initializer_types.specs.Checker.{CheckerTree, counted, declared_in, integer_slot, with_label, restarted, condition_in, integer_in}
+use Rattle.initializer_types.specs.DeclarationForms.{FunctionKindTree, MainKind, EdgeKind, VertexKind, FilterKind, NoKind, kind}
+use Rattle.types.specs.Declaration.{DeclaredTree, declaration_typed, declarations_typed, declare_function, kind_fits, main_declared, opened, steps_declared}
+use Rattle.initializer_types.specs.Initial.{initializer_of, loaded, new_set}
 use Rattle.type_laws.specs.InitialValues.{ActionInitialsFit, BlockInitialsFit, DeclarationInitialsFit, InitialFits}
 use Rattle.types.specs.Program.{no_declarations, program_of, set_count}
 use Rattle.types.specs.Statement.{assign}

@@ -15,10 +15,10 @@ use Rattle.expression_types.specs.Expression.{primary_value, unary_value, used_n
 use Rattle.expression_types.specs.ScopeTree.{ScopeTree}
 use Rattle.expression_types.specs.Faults.{WithFaults, sure}
 use Rattle.typed_tree.specs.declared.program.InitialValue.TheVariants as beginning
-use Rattle.types.specs.Checker.{CheckerTree, declared_in}
+use Rattle.initializer_types.specs.Checker.{CheckerTree, declared_in}
 use Rattle.types.specs.Declaration.{DeclaredTree, begins, declare_constant_as, declare_name, literal_or_fault, next_name, only_edges, declare_edges}
-use Rattle.types.specs.Initial.{Degrees, InitializerTree, Loaded, Members, initializer_of, is_degrees, is_sound, loaded}
-use Rattle.types.specs.Literal.{expression_integer, expression_truth, literal_condition, literal_integer, primary_number, primary_truth, unary_number, unary_truth}
+use Rattle.initializer_types.specs.Initial.{Degrees, InitializerTree, Loaded, Members, initializer_of, is_degrees, is_sound, loaded}
+use Rattle.initializer_types.specs.DeclarationForms.{expression_integer, expression_truth, literal_condition, literal_integer, primary_number, primary_truth, unary_number, unary_truth}
 use Rattle.type_laws.specs.KeptRules.{ConstantKeeps, Declarations, after_constant}
 use Rattle.type_laws.specs.Meanings as meaning
 use Rattle.type_laws.specs.ScopeMeanings.{meaning_of, meanings_of}

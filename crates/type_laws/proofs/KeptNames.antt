@@ -15,7 +15,7 @@ use Rattle.expression_types.specs.Expression.{used_name, used_as, value_of, vect
 use Rattle.expression_types.specs.ScopeTree.{found, declared_over}
 use Rattle.expression_types.specs.ValueTree as value
 use Rattle.expression_types.specs.ValueTree.{ValueTree, entity_set}
-use Rattle.types.specs.Checker.{CheckerTree, counted, declared_in, with_label, new_label, in_scope, condition_wanted, integer_wanted, condition_in, integer_in}
+use Rattle.initializer_types.specs.Checker.{CheckerTree, counted, declared_in, with_label, new_label, in_scope, condition_wanted, integer_wanted, condition_in, integer_in}
 use Rattle.type_laws.specs.ExpressionTypes.{ExpressionHas, ExpressionType, IsNumberExpression, IsTruth, NameHas, Set, Truth, type_named}
 use Rattle.type_laws.specs.Meanings as meaning
 use Rattle.type_laws.specs.ScopeMeanings.{meaning_of, meanings_of}

@@ -19,9 +19,9 @@ use Rattle.expression_types.specs.declared.scope.Inside.TheVariants as inside
 use Rattle.expression_types.specs.ScopeTree.{entered}
 use Rattle.expression_types.specs.Faults.{WithFaults}
 use Rattle.types.specs.Block.{statements_typed}
-use Rattle.types.specs.Checker.{CheckerTree, condition_slot, declared_in, restarted, in_scope}
-use Rattle.types.specs.Declaration.{DeclaredTree, EdgeKind, FilterKind, MainKind, NoKind, VertexKind, declaration_typed, declarations_typed, declare_function, declare_name, is_bool_type}
-use Rattle.types.specs.Declaration.{is_vertex_type, kind_of, main_bytes, main_declared, opened, parameter, steps_declared, takes_nothing, is_int_type}
+use Rattle.initializer_types.specs.Checker.{CheckerTree, condition_slot, declared_in, restarted, in_scope}
+use Rattle.initializer_types.specs.DeclarationForms.{EdgeKind, FilterKind, MainKind, NoKind, VertexKind, is_bool_type, is_vertex_type, kind_of, main_bytes, takes_nothing, is_int_type}
+use Rattle.types.specs.Declaration.{DeclaredTree, declaration_typed, declarations_typed, declare_function, declare_name, main_declared, opened, parameter, steps_declared}
 use Rattle.types.specs.Program.{main_of, no_declarations, program_of, set_count}
 use Rattle.types.specs.Step.{steps_typed, with_writes}
 use Rattle.type_laws.specs.KeptRules.{BlockKeeps, DeclarationKeeps, Declarations, DeclarationsKeep, FunctionKeeps, KeepsRules, MainKeeps, after_declaration, after_function, after_main}

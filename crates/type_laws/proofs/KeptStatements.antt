@@ -22,10 +22,10 @@ use Rattle.expression_types.specs.ValueTree as value
 use Rattle.expression_types.specs.ValueTree.{ValueTree, entity_set, reads_entry}
 use Rattle.expression_types.specs.Faults.{WithFaults, fault_at, sure}
 use Rattle.types.specs.Block.{action_typed, then_statement, closed, in_place, statements_typed}
-use Rattle.types.specs.Checker.{CheckerTree, condition_slot, counted, declared_in, integer_slot, with_label, set_slot, as_index, integer_wanted, as_members, condition_in, integer_in, unread}
-use Rattle.types.specs.Initial as initial_value
-use Rattle.types.specs.Initial.{ApplyEndTree, Absent, Wrong, ErrorEnd, InitializerTree, edge_function, apply_end_of, ends_given, filter_named, filtered_set, initializer_condition, initializer_integer}
-use Rattle.types.specs.Initial.{initializer_members, initializer_of, is_edges, is_error_end, is_wrong, initial_modified, modified_by, names_error, new_set, of_edges, vector_of, writes_vector}
+use Rattle.initializer_types.specs.Checker.{CheckerTree, condition_slot, counted, declared_in, integer_slot, with_label, set_slot, as_index, integer_wanted, as_members, condition_in, integer_in, unread}
+use Rattle.initializer_types.specs.Initial as initial_value
+use Rattle.initializer_types.specs.Initial.{ApplyEndTree, Absent, Wrong, ErrorEnd, InitializerTree, edge_function, apply_end_of, ends_given, filter_named, filtered_set, initializer_condition, initializer_integer}
+use Rattle.initializer_types.specs.Initial.{initializer_members, initializer_of, is_edges, is_error_end, is_wrong, initial_modified, modified_by, names_error, new_set, of_edges, vector_of, writes_vector}
 use Rattle.types.specs.Statement.{add_vertex, added_to_set, apply, applied, edges_applied, no_action, assign, assigned, declare_variable, has_ends, print, printed, reduce, reduce_entry, reduced}
 use Rattle.types.specs.Statement.{set_entry}
 use Rattle.type_laws.specs.EntryAccess.{HasNoEntry}

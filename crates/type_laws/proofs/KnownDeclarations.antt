@@ -15,12 +15,12 @@ use Rattle.expression_types.specs.declared.scope.Inside.{Inside}
 use Rattle.expression_types.specs.declared.scope.Inside.TheVariants as inside
 use Rattle.expression_types.specs.ScopeTree.{entered}
 use Rattle.types.specs.Block.{statements_typed}
-use Rattle.types.specs.Checker.{CheckerTree, condition_slot, declared_in, restarted, in_scope}
-use Rattle.types.specs.Declaration.{DeclaredTree, FunctionKindTree, MainKind, EdgeKind, VertexKind, FilterKind, NoKind, begins, declaration_typed, declare_constant_as, declare_function, declare_name}
-use Rattle.types.specs.Declaration.{function_declared, has_all, inside_of, is_vertex_type, kind, kind_fits, literal_or_fault, loads, main_declared, next_name, only_edges, opened, parameter}
-use Rattle.types.specs.Declaration.{parameters_declared, result_declared, steps_declared, with_main_block, takes_weight, is_int_type}
-use Rattle.types.specs.Initial.{InitializerTree, initializer_of, is_sound}
-use Rattle.types.specs.Literal.{literal_condition, literal_integer}
+use Rattle.initializer_types.specs.Checker.{CheckerTree, condition_slot, declared_in, restarted, in_scope}
+use Rattle.initializer_types.specs.DeclarationForms.{FunctionKindTree, MainKind, EdgeKind, VertexKind, FilterKind, NoKind, is_vertex_type, kind, is_int_type, literal_condition, literal_integer}
+use Rattle.types.specs.Declaration.{DeclaredTree, begins, declaration_typed, declare_constant_as, declare_function, declare_name}
+use Rattle.types.specs.Declaration.{function_declared, has_all, inside_of, kind_fits, literal_or_fault, loads, main_declared, next_name, only_edges, opened, parameter}
+use Rattle.types.specs.Declaration.{parameters_declared, result_declared, steps_declared, with_main_block, takes_weight}
+use Rattle.initializer_types.specs.Initial.{InitializerTree, initializer_of, is_sound}
 use Rattle.types.specs.Step.{steps_typed, with_writes}
 use Rattle.type_laws.proofs.EachDeclaration.{IsUserKind}
 use Rattle.type_laws.proofs.Faultless.{no_left, no_right, not_empty}

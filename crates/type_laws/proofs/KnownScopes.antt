@@ -14,8 +14,8 @@ use Rattle.expression_types.specs.declared.scope.Inside.{Inside}
 use Rattle.expression_types.specs.Expression.{used_name, used_as}
 use Rattle.expression_types.specs.ScopeTree.{found, ScopeTree, declared_over}
 use Rattle.types.specs.Block.{action_typed}
-use Rattle.types.specs.Checker.{CheckerTree, condition_slot, declared_in, integer_slot, with_label, new_label, set_slot}
-use Rattle.types.specs.Initial.{InitializerTree, initializer_condition, initializer_of, initializer_integer, initializer_members}
+use Rattle.initializer_types.specs.Checker.{CheckerTree, condition_slot, declared_in, integer_slot, with_label, new_label, set_slot}
+use Rattle.initializer_types.specs.Initial.{InitializerTree, initializer_condition, initializer_of, initializer_integer, initializer_members}
 use Rattle.types.specs.Statement.{declare_as}
 use Rattle.types.specs.Step.{declare_step_as, step_typed}
 use Rattle.type_laws.proofs.Faultless.{no_left, no_right, not_empty}

@@ -14,12 +14,12 @@ use Rattle.expression_types.specs.declared.scope.Entity.TheVariants as entity
 use Rattle.expression_types.specs.declared.scope.Inside.TheVariants as inside
 use Rattle.expression_types.specs.ScopeTree.{entered, integers_of}
 use Rattle.types.specs.Block.{statements_typed}
-use Rattle.types.specs.Checker.{CheckerTree, declared_in, restarted, in_scope}
-use Rattle.types.specs.Declaration.{DeclaredTree, FunctionKindTree, MainKind, EdgeKind, VertexKind, FilterKind, NoKind, begins, declaration_typed, declarations_typed, declare_constant_as}
-use Rattle.types.specs.Declaration.{declare_function, declare_name, function_declared, has_all, is_int_type, is_vertex_type, kind, kind_fits, literal_or_fault, loads, main_declared, next_name}
+use Rattle.initializer_types.specs.Checker.{CheckerTree, declared_in, restarted, in_scope}
+use Rattle.initializer_types.specs.DeclarationForms.{FunctionKindTree, MainKind, EdgeKind, VertexKind, FilterKind, NoKind, is_int_type, is_vertex_type, kind, literal_condition, literal_integer}
+use Rattle.types.specs.Declaration.{DeclaredTree, begins, declaration_typed, declarations_typed, declare_constant_as}
+use Rattle.types.specs.Declaration.{declare_function, declare_name, function_declared, has_all, kind_fits, literal_or_fault, loads, main_declared, next_name}
 use Rattle.types.specs.Declaration.{only_edges, opened, parameter, parameters_declared, result_declared, steps_declared, with_main_block}
-use Rattle.types.specs.Initial.{InitializerTree, initializer_of, is_sound}
-use Rattle.types.specs.Literal.{literal_condition, literal_integer}
+use Rattle.initializer_types.specs.Initial.{InitializerTree, initializer_of, is_sound}
 use Rattle.types.specs.Program.{main_of, no_declarations, program_of, set_count}
 use Rattle.types.specs.Step.{steps_typed, with_writes}
 use Rattle.type_laws.specs.LoopVariables.{KeepsLoops, KeepsLoopVariables}

@@ -17,9 +17,9 @@ use Rattle.expression_types.specs.Faults.{WithFaults}
 use Rattle.expression_types.specs.ValueTree as value
 use Rattle.expression_types.specs.ValueTree.{ValueTree, entity_set}
 use Rattle.types.specs.Block.{action_typed, then_statement, closed, statements_typed}
-use Rattle.types.specs.Checker.{CheckerTree, condition_slot, counted, declared_in, integer_slot, with_label, set_slot, as_index, condition_in, integer_in}
-use Rattle.types.specs.Initial.{ApplyEndTree, InitializerTree, edge_function, apply_end_of, initializer_condition, initializer_integer, initializer_members, initializer_of, is_edges, is_error_end}
-use Rattle.types.specs.Initial.{is_wrong, lacks_weights, names_error, vertex_function}
+use Rattle.initializer_types.specs.Checker.{CheckerTree, condition_slot, counted, declared_in, integer_slot, with_label, set_slot, as_index, condition_in, integer_in}
+use Rattle.initializer_types.specs.Initial.{ApplyEndTree, InitializerTree, edge_function, apply_end_of, initializer_condition, initializer_integer, initializer_members, initializer_of, is_edges, is_error_end}
+use Rattle.initializer_types.specs.Initial.{is_wrong, lacks_weights, names_error, vertex_function}
 use Rattle.types.specs.Statement.{add_vertex, added_to_set, applied, apply, assign, assigned, declare_as, edges_applied, entry_reduced, entry_set, has_ends, print, printed, reduce, reduce_entry}
 use Rattle.types.specs.Statement.{reduced, set_applied, set_entry, vertices_applied}
 use Rattle.type_laws.specs.LoopVariables.{IsOutside, KeepsInside, KeepsLoops, integers_behind}

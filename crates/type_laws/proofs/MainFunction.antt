@@ -11,10 +11,10 @@ use Rattle.syntax.specs.SourceTrees.{ParameterTree, InitialTree, DeclarationTree
 use Rattle.typed_tree.specs.BlockTree.{BlockTree, Empty}
 use Rattle.expression_types.specs.declared.scope.Entity.TheVariants as entity
 use Rattle.types.specs.Block.{statements_typed}
-use Rattle.types.specs.Checker.{restarted, in_scope}
-use Rattle.types.specs.Declaration.{DeclaredTree, FunctionKindTree, MainKind, EdgeKind, VertexKind, FilterKind, NoKind, declaration_typed, declarations_typed, declare_constant_as, declare_function}
-use Rattle.types.specs.Declaration.{declare_name, kind_of, main_bytes, opened, takes_nothing, with_main_block}
-use Rattle.types.specs.Initial.{InitializerTree, initializer_of}
+use Rattle.initializer_types.specs.Checker.{restarted, in_scope}
+use Rattle.initializer_types.specs.DeclarationForms.{FunctionKindTree, MainKind, EdgeKind, VertexKind, FilterKind, NoKind, kind_of, main_bytes, takes_nothing}
+use Rattle.types.specs.Declaration.{DeclaredTree, declaration_typed, declarations_typed, declare_constant_as, declare_function, declare_name, opened, with_main_block}
+use Rattle.initializer_types.specs.Initial.{InitializerTree, initializer_of}
 use Rattle.type_laws.specs.MainFunction.{DeclaresMain, IsMain, functions_named}
 use Rattle.type_laws.specs.NewNames.{DeclarationsDeclareNew, IsNew}
 use Rattle.types.specs.Program.{main_of, no_declarations, program_of, set_count}

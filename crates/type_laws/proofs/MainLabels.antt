@@ -18,10 +18,10 @@ use Rattle.expression_types.specs.Faults.{WithFaults}
 use Rattle.expression_types.specs.ValueTree as value
 use Rattle.expression_types.specs.ValueTree.{ValueTree, entity_set}
 use Rattle.types.specs.Block.{action_typed, then_statement, closed, statements_typed}
-use Rattle.types.specs.Checker.{CheckerTree, counted, declared_in, integer_slot, with_label, new_label, restarted, in_scope, as_index, condition_in, integer_in}
-use Rattle.types.specs.Declaration.{DeclaredTree, FunctionKindTree, MainKind, EdgeKind, VertexKind, FilterKind, NoKind, declaration_typed, declarations_typed, declare_constant_as, declare_function}
-use Rattle.types.specs.Declaration.{declare_name, kind, opened, with_main_block}
-use Rattle.types.specs.Initial.{ApplyEndTree, InitializerTree, edge_function, apply_end_of, initializer_of, is_edges, names_error, is_error_end, is_wrong, vertex_function, lacks_weights}
+use Rattle.initializer_types.specs.Checker.{CheckerTree, counted, declared_in, integer_slot, with_label, new_label, restarted, in_scope, as_index, condition_in, integer_in}
+use Rattle.initializer_types.specs.DeclarationForms.{FunctionKindTree, MainKind, EdgeKind, VertexKind, FilterKind, NoKind, kind}
+use Rattle.types.specs.Declaration.{DeclaredTree, declaration_typed, declarations_typed, declare_constant_as, declare_function, declare_name, opened, with_main_block}
+use Rattle.initializer_types.specs.Initial.{ApplyEndTree, InitializerTree, edge_function, apply_end_of, initializer_of, is_edges, names_error, is_error_end, is_wrong, vertex_function, lacks_weights}
 use Rattle.types.specs.Program.{main_of, no_declarations, program_of, set_count}
 use Rattle.types.specs.Statement.{add_vertex, added_to_set, applied, apply, assign, assigned, declare_as, edges_applied, entry_reduced, entry_set, has_ends, print, printed, reduce, reduce_entry}
 use Rattle.types.specs.Statement.{reduced, set_applied, set_entry, vertices_applied}

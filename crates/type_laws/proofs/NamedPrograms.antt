@@ -24,13 +24,13 @@ use Rattle.expression_types.specs.declared.scope.Entity.TheVariants as entity
 use Rattle.expression_types.specs.declared.scope.Inside.TheVariants as inside
 use Rattle.expression_types.specs.ScopeTree.{entered, sets_of}
 use Rattle.types.specs.Block.{statements_typed}
-use Rattle.types.specs.Checker.{CheckerTree, declared_in, integer_slot, with_label, restarted, in_scope}
-use Rattle.types.specs.Declaration.{DeclaredTree, FunctionKindTree, MainKind, EdgeKind, VertexKind, FilterKind, NoKind, begins, declaration_typed, declarations_typed, declare_constant_as}
-use Rattle.types.specs.Declaration.{declare_function, declare_name, function_declared, function_of, has_all, inside_of, is_bool_type, is_vertex_type, kind, kind_fits, kind_of, literal_or_fault, loads}
-use Rattle.types.specs.Declaration.{main_bytes, main_declared, next_name, only_edges, opened, parameter, parameters_declared, result_declared, steps_declared, takes_nothing, with_main_block}
-use Rattle.types.specs.Declaration.{takes_weight, is_int_type}
-use Rattle.types.specs.Initial.{InitializerTree, initializer_of, is_sound, writes_vector}
-use Rattle.types.specs.Literal.{literal_condition, literal_integer}
+use Rattle.initializer_types.specs.Checker.{CheckerTree, declared_in, integer_slot, with_label, restarted, in_scope}
+use Rattle.initializer_types.specs.DeclarationForms.{FunctionKindTree, MainKind, EdgeKind, VertexKind, FilterKind, NoKind, is_bool_type, is_vertex_type, kind, kind_of, main_bytes, takes_nothing}
+use Rattle.types.specs.Declaration.{DeclaredTree, begins, declaration_typed, declarations_typed, declare_constant_as}
+use Rattle.types.specs.Declaration.{declare_function, declare_name, function_declared, function_of, has_all, inside_of, kind_fits, literal_or_fault, loads}
+use Rattle.types.specs.Declaration.{main_declared, next_name, only_edges, opened, parameter, parameters_declared, result_declared, steps_declared, with_main_block, takes_weight}
+use Rattle.initializer_types.specs.DeclarationForms.{is_int_type, literal_condition, literal_integer}
+use Rattle.initializer_types.specs.Initial.{InitializerTree, initializer_of, is_sound, writes_vector}
 use Rattle.types.specs.Program.{main_of, no_declarations, program_of, set_count}
 use Rattle.types.specs.Step.{declare_step_as, step_after, step_typed, steps_after, steps_typed, with_writes}
 use Rattle.type_laws.specs.AskedVectors.{AskForWritten, AsksForWritten}

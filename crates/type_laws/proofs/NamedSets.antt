@@ -27,10 +27,10 @@ use Rattle.expression_types.specs.Faults.{WithFaults}
 use Rattle.expression_types.specs.ValueTree as value
 use Rattle.expression_types.specs.ValueTree.{ValueTree, entity_set}
 use Rattle.types.specs.Block.{action_typed, then_statement, closed, statements_typed}
-use Rattle.types.specs.Checker.{CheckerTree, condition_slot, counted, declared_in, integer_slot, with_label, new_label, set_slot, as_index, as_members, condition_in, integer_in}
-use Rattle.types.specs.Initial.{ApplyEndTree, InitializerTree, Typed, Members, Loaded, Degrees, ErrorInitializer, edge_function, apply_end_of, ends_given, filter_function, filter_named, filtered_set}
-use Rattle.types.specs.Initial.{filtered_by, given_filter, initializer_condition, initializer_integer, initializer_members, initializer_of, is_edges, is_error_end, is_wrong, loaded, initial_modified}
-use Rattle.types.specs.Initial.{modified_by, names_error, new_set, of_edges, vector_of, vertex_function, writes_vector, lacks_weights}
+use Rattle.initializer_types.specs.Checker.{CheckerTree, condition_slot, counted, declared_in, integer_slot, with_label, new_label, set_slot, as_index, as_members, condition_in, integer_in}
+use Rattle.initializer_types.specs.Initial.{ApplyEndTree, InitializerTree, Typed, Members, Loaded, Degrees, ErrorInitializer, edge_function, apply_end_of, ends_given, filter_function, filter_named, filtered_set}
+use Rattle.initializer_types.specs.Initial.{filtered_by, given_filter, initializer_condition, initializer_integer, initializer_members, initializer_of, is_edges, is_error_end, is_wrong, loaded, initial_modified}
+use Rattle.initializer_types.specs.Initial.{modified_by, names_error, new_set, of_edges, vector_of, vertex_function, writes_vector, lacks_weights}
 use Rattle.types.specs.Statement.{add_vertex, added_to_set, applied, apply, assign, assigned, declare_as, edges_applied, entry_reduced, entry_set, has_ends, print, printed, reduce, reduce_entry}
 use Rattle.types.specs.Statement.{reduced, set_applied, set_entry, vertices_applied}
 use Rattle.type_laws.specs.AskedVectors.{AsksForWritten, ValueAsksForWritten}

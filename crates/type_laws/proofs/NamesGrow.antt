@@ -14,9 +14,10 @@ use Rattle.expression_types.specs.declared.scope.Entity.{Entity}
 use Rattle.expression_types.specs.declared.scope.Entity.TheVariants as entity
 use Rattle.expression_types.specs.ScopeTree.{found, entered}
 use Rattle.types.specs.Block.{action_typed, then_statement, closed, statements_typed}
-use Rattle.types.specs.Checker.{CheckerTree, counted, declared_in, integer_slot, with_label, new_label, in_scope}
-use Rattle.types.specs.Declaration.{FunctionKindTree, inside_of, opened, parameter, parameters_declared, result_declared, result_entity, takes_weight}
-use Rattle.types.specs.Initial.{InitializerTree, initializer_of}
+use Rattle.initializer_types.specs.Checker.{CheckerTree, counted, declared_in, integer_slot, with_label, new_label, in_scope}
+use Rattle.initializer_types.specs.DeclarationForms.{FunctionKindTree}
+use Rattle.types.specs.Declaration.{inside_of, opened, parameter, parameters_declared, result_declared, result_entity, takes_weight}
+use Rattle.initializer_types.specs.Initial.{InitializerTree, initializer_of}
 use Rattle.types.specs.Statement.{declare_as}
 use Rattle.types.specs.Step.{declare_step_as, step_after, step_typed, steps_after, steps_typed, with_writes}
 use Rattle.type_laws.proofs.ResolvedScopes.{get_before}

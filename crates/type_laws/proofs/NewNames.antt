@@ -19,12 +19,12 @@ use Rattle.expression_types.specs.declared.scope.Entity.{Entity}
 use Rattle.expression_types.specs.declared.scope.Entity.TheVariants as entity
 use Rattle.expression_types.specs.ScopeTree.{found, ScopeTree, declared_over, entered}
 use Rattle.types.specs.Block.{action_typed, then_statement, closed, statements_typed}
-use Rattle.types.specs.Checker.{CheckerTree, condition_slot, counted, declared_in, integer_slot, with_label, new_label, restarted, set_slot, in_scope, condition_in, integer_in}
-use Rattle.types.specs.Declaration.{DeclaredTree, FunctionKindTree, MainKind, EdgeKind, VertexKind, FilterKind, NoKind, begins, declaration_typed, declarations_typed, declare_constant_as}
-use Rattle.types.specs.Declaration.{declare_function, declare_name, function_declared, has_all, inside_of, kind, kind_fits, literal_or_fault, loads, main_declared, next_name, only_edges, opened}
+use Rattle.initializer_types.specs.Checker.{CheckerTree, condition_slot, counted, declared_in, integer_slot, with_label, new_label, restarted, set_slot, in_scope, condition_in, integer_in}
+use Rattle.initializer_types.specs.DeclarationForms.{FunctionKindTree, MainKind, EdgeKind, VertexKind, FilterKind, NoKind, kind, literal_condition, literal_integer}
+use Rattle.types.specs.Declaration.{DeclaredTree, begins, declaration_typed, declarations_typed, declare_constant_as}
+use Rattle.types.specs.Declaration.{declare_function, declare_name, function_declared, has_all, inside_of, kind_fits, literal_or_fault, loads, main_declared, next_name, only_edges, opened}
 use Rattle.types.specs.Declaration.{parameter, parameters_declared, result_declared, result_entity, steps_declared, with_main_block, takes_weight}
-use Rattle.types.specs.Initial.{InitializerTree, initializer_condition, initializer_of, initializer_integer, is_sound, initializer_members}
-use Rattle.types.specs.Literal.{literal_condition, literal_integer}
+use Rattle.initializer_types.specs.Initial.{InitializerTree, initializer_condition, initializer_of, initializer_integer, is_sound, initializer_members}
 use Rattle.type_laws.specs.NewNames.{ActionDeclaresNew, BlockDeclaresNew, DeclarationDeclaresNew, DeclarationsDeclareNew, FunctionDeclaresNew, IsNew, ParametersAreNew, ResultIsNew, edges_declared}
 use Rattle.type_laws.specs.NewNames.{edge_type_count, names_after, names_inside, with_declaration, with_new, with_parameters, with_result_name}
 use Rattle.types.specs.Program.{no_declarations, program_of, set_count}

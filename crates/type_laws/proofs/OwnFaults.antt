@@ -25,12 +25,12 @@ use Rattle.expression_types.specs.Expression.{as_vector}
 use Rattle.expression_types.specs.ScopeTree.{found, ScopeTree, declared_over}
 use Rattle.expression_types.specs.ValueTree.{ValueTree, Integer, Condition, Vertex, Set, ErrorValue, condition_reads_entry, entity_set, named_vector, reads_entry}
 use Rattle.expression_types.specs.Faults.{WithFaults, fault_at, sure, ◌>>=◌}
-use Rattle.types.specs.Checker.{CheckerTree, declared_in, with_label, new_label, condition_wanted, as_index, integer_wanted, as_members, no_index}
+use Rattle.initializer_types.specs.Checker.{CheckerTree, declared_in, with_label, new_label, condition_wanted, as_index, integer_wanted, as_members, no_index}
 use Rattle.types.specs.Declaration.{begins, literal_or_fault, wanted}
-use Rattle.types.specs.Initial.{ApplyEndTree, InitializerTree, Typed, Members, Loaded, Degrees, ErrorInitializer, edge_function, ends_given, filter_function, filtered_by, initializer_condition}
-use Rattle.types.specs.Initial.{initializer_integer, initializer_members, is_degrees, is_edges, is_error_end, is_sound, is_wrong, lacks_weights, loaded, initial_modified, modified_by, names_error}
-use Rattle.types.specs.Initial.{new_set, of_edges, vector_of, vertex_function, writes_vector, filtered_set}
-use Rattle.types.specs.Literal.{literal_integer}
+use Rattle.initializer_types.specs.Initial.{ApplyEndTree, InitializerTree, Typed, Members, Loaded, Degrees, ErrorInitializer, edge_function, ends_given, filter_function, filtered_by, initializer_condition}
+use Rattle.initializer_types.specs.Initial.{initializer_integer, initializer_members, is_degrees, is_edges, is_error_end, is_sound, is_wrong, lacks_weights, loaded, initial_modified, modified_by, names_error}
+use Rattle.initializer_types.specs.Initial.{new_set, of_edges, vector_of, vertex_function, writes_vector, filtered_set}
+use Rattle.initializer_types.specs.DeclarationForms.{literal_integer}
 use Rattle.types.specs.Program.{main_of}
 use Rattle.types.specs.Statement.{no_action, added_to_set, applied, assigned, edges_applied, printed, reduced, set_applied, vertices_applied}
 use Rattle.types.specs.Step.{assigned_step, at_own, may_reduce, may_set, one_reduction, reduced_as, reduced_step, same_endpoint, same_reduction, written_at, written_with}

@@ -21,12 +21,12 @@ use Rattle.expression_types.specs.Expression.{index_value, used_name, value_of, 
 use Rattle.expression_types.specs.ScopeTree.{ScopeTree}
 use Rattle.expression_types.specs.ValueTree.{is_error}
 use Rattle.types.specs.Block.{then_statement, statements_typed, action_typed}
-use Rattle.types.specs.Checker.{CheckerTree, counted, declared_in, with_label, restarted, in_scope, as_index}
-use Rattle.types.specs.Declaration.{DeclaredTree, FunctionKindTree, MainKind, EdgeKind, VertexKind, FilterKind, NoKind, begins, declarations_typed, declaration_typed, declare_constant_as}
-use Rattle.types.specs.Declaration.{declare_function, declare_name, declare_edges, kind, literal_or_fault, loads, next_name, only_edges, opened, parameters_declared, parameter, result_declared}
+use Rattle.initializer_types.specs.Checker.{CheckerTree, counted, declared_in, with_label, restarted, in_scope, as_index}
+use Rattle.initializer_types.specs.DeclarationForms.{FunctionKindTree, MainKind, EdgeKind, VertexKind, FilterKind, NoKind, kind, literal_condition, literal_integer}
+use Rattle.types.specs.Declaration.{DeclaredTree, begins, declarations_typed, declaration_typed, declare_constant_as}
+use Rattle.types.specs.Declaration.{declare_function, declare_name, declare_edges, literal_or_fault, loads, next_name, only_edges, opened, parameters_declared, parameter, result_declared}
 use Rattle.types.specs.Declaration.{result_entity, has_all}
-use Rattle.types.specs.Initial.{InitializerTree, apply_end_of, initializer_of, is_all, is_error_end, is_loaded, is_sound, names_error}
-use Rattle.types.specs.Literal.{literal_condition, literal_integer}
+use Rattle.initializer_types.specs.Initial.{InitializerTree, apply_end_of, initializer_of, is_all, is_error_end, is_loaded, is_sound, names_error}
 use Rattle.types.specs.Program.{main_of, no_declarations, set_count}
 use Rattle.types.specs.Statement.{declare_as, has_ends}
 use Rattle.types.specs.Step.{declare_step_as, may_reduce, may_set, own_vertex, step_after, step_typed, steps_typed, written_at}

@@ -5,8 +5,9 @@ use Rattle.syntax.specs.Terminals.{Identifier}
 use Rattle.syntax.specs.SourceTrees as source
 use Rattle.syntax.specs.SourceTrees.{ParameterTree, DeclarationTree, SourceTree}
 use Rattle.typed_tree.specs.FunctionStatementTree.{FunctionStatementsTree, NoStep}
-use Rattle.types.specs.Checker.{CheckerTree, with_label, condition_in}
-use Rattle.types.specs.Declaration.{DeclaredTree, FunctionKindTree, declaration_typed, declarations_typed, kind_fits, kind_of, opened, steps_declared}
+use Rattle.initializer_types.specs.Checker.{CheckerTree, with_label, condition_in}
+use Rattle.initializer_types.specs.DeclarationForms.{FunctionKindTree, kind_of}
+use Rattle.types.specs.Declaration.{DeclaredTree, declaration_typed, declarations_typed, kind_fits, opened, steps_declared}
 use Rattle.type_laws.specs.Prints.{ActionPrintsNothing, BlockPrintsNothing, PrintsInMainAlone}
 use Rattle.types.specs.Program.{no_declarations, program_of, set_count}
 use Rattle.types.specs.Step.{step_after, step_typed, steps_after, steps_typed}

@@ -11,7 +11,7 @@ use Rattle.typed_tree.specs.Resolved.{VisibleTree, IsLabel, IsNameIndex, IsVerte
 use Rattle.expression_types.specs.declared.scope.Entity.{Entity}
 use Rattle.expression_types.specs.declared.scope.Entity.TheVariants as entity
 use Rattle.expression_types.specs.ScopeTree.{found, ScopeTree, conditions_of, declared_over, integers_of, sets_of, with_entity}
-use Rattle.types.specs.Checker.{CheckerTree, declared_in, with_label, new_label, in_scope, without_ends}
+use Rattle.initializer_types.specs.Checker.{CheckerTree, declared_in, with_label, new_label, in_scope, without_ends}
 use Rattle.type_laws.proofs.Faultless.{no_left, not_empty}
 use Rattle.type_laws.proofs.ResolvedValues.{EntityIsResolved, Known}
 

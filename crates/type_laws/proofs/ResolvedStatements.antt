@@ -19,9 +19,9 @@ use Rattle.expression_types.specs.Faults.{WithFaults}
 use Rattle.expression_types.specs.ValueTree as value
 use Rattle.expression_types.specs.ValueTree.{ValueTree, entity_set}
 use Rattle.types.specs.Block.{action_typed, then_statement, closed, statements_typed}
-use Rattle.types.specs.Checker.{CheckerTree, condition_slot, counted, declared_in, integer_slot, with_label, set_slot, as_index, condition_in, integer_in}
-use Rattle.types.specs.Initial.{ApplyEndTree, InitializerTree, initializer_condition, edge_function, apply_end_of, initializer_of, initializer_integer, is_edges, names_error, is_error_end, is_wrong}
-use Rattle.types.specs.Initial.{initializer_members, vertex_function, lacks_weights}
+use Rattle.initializer_types.specs.Checker.{CheckerTree, condition_slot, counted, declared_in, integer_slot, with_label, set_slot, as_index, condition_in, integer_in}
+use Rattle.initializer_types.specs.Initial.{ApplyEndTree, InitializerTree, initializer_condition, edge_function, apply_end_of, initializer_of, initializer_integer, is_edges, names_error, is_error_end, is_wrong}
+use Rattle.initializer_types.specs.Initial.{initializer_members, vertex_function, lacks_weights}
 use Rattle.types.specs.Statement.{add_vertex, added_to_set, applied, apply, assign, assigned, declare_as, edges_applied, entry_reduced, entry_set, has_ends, print, printed, reduce, reduce_entry}
 use Rattle.types.specs.Statement.{reduced, set_applied, set_entry, vertices_applied}
 use Rattle.type_laws.proofs.Faultless.{no_left, no_right, not_empty}

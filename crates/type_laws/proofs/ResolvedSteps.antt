@@ -14,8 +14,8 @@ use Rattle.expression_types.specs.declared.scope.Entity.{Entity}
 use Rattle.expression_types.specs.declared.scope.Entity.TheVariants as entity
 use Rattle.expression_types.specs.Expression.{index_value, used_name, value_of, vector_index}
 use Rattle.expression_types.specs.ValueTree.{ValueTree}
-use Rattle.types.specs.Checker.{CheckerTree, condition_slot, declared_in, integer_slot, with_label, condition_in, integer_in}
-use Rattle.types.specs.Initial.{InitializerTree, initializer_condition, initializer_of, initializer_integer}
+use Rattle.initializer_types.specs.Checker.{CheckerTree, condition_slot, declared_in, integer_slot, with_label, condition_in, integer_in}
+use Rattle.initializer_types.specs.Initial.{InitializerTree, initializer_condition, initializer_of, initializer_integer}
 use Rattle.types.specs.Step.{assign_step, assigned_step, declare_step_as, entry_step, may_reduce, may_set, own_vertex, reduce_entry_step, reduce_step, reduced_step, reduction_step, set_entry_step}
 use Rattle.types.specs.Step.{step_after, step_typed, steps_after, steps_typed, written_at}
 use Rattle.type_laws.proofs.Faultless.{no_left, no_right, not_empty}

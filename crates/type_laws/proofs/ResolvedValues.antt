@@ -39,10 +39,10 @@ use Rattle.expression_types.specs.Operators.{IntegersTree, Integers, MixedIntege
 use Rattle.expression_types.specs.Operators.{beside_condition, beside_integer, compared, entry_value, equated, first_condition, first_integer, given_or_fault, grouped_conditions, grouped_integers}
 use Rattle.expression_types.specs.Operators.{multiplied, related_value, signed_value}
 use Rattle.expression_types.specs.ValueTree.{ValueTree, Integer, Condition, Vertex, Set, ErrorValue, condition_reads_entry, entity_set, named_value, reads_entry}
-use Rattle.types.specs.Checker.{CheckerTree, condition_wanted, as_index, integer_wanted, as_members, condition_in, integer_in, no_index}
-use Rattle.types.specs.Initial.{ApplyEndTree, InitializerTree, Typed, Members, Loaded, Degrees, ErrorInitializer, initializer_condition, edge_function, apply_end_of, ends_given, filter_function}
-use Rattle.types.specs.Initial.{filter_named, filtered_set, filtered_by, initializer_of, given_filter, initializer_integer, is_edges, names_error, is_error_end, is_wrong, initializer_members}
-use Rattle.types.specs.Initial.{initial_modified, modified_by, new_set, loaded, of_edges, vector_of, vertex_function, writes_vector, lacks_weights}
+use Rattle.initializer_types.specs.Checker.{CheckerTree, condition_wanted, as_index, integer_wanted, as_members, condition_in, integer_in, no_index}
+use Rattle.initializer_types.specs.Initial.{ApplyEndTree, InitializerTree, Typed, Members, Loaded, Degrees, ErrorInitializer, initializer_condition, edge_function, apply_end_of, ends_given, filter_function}
+use Rattle.initializer_types.specs.Initial.{filter_named, filtered_set, filtered_by, initializer_of, given_filter, initializer_integer, is_edges, names_error, is_error_end, is_wrong, initializer_members}
+use Rattle.initializer_types.specs.Initial.{initial_modified, modified_by, new_set, loaded, of_edges, vector_of, vertex_function, writes_vector, lacks_weights}
 
 -- what a name stands for is there
 abbrev pub EntityIsResolved : ProgramTree → VisibleTree → Entity → Type 0

@@ -13,9 +13,9 @@ use Rattle.expression_types.specs.Expression.{index_value, value_of, vector_inde
 use Rattle.expression_types.specs.ScopeTree.{declared}
 use Rattle.expression_types.specs.Faults.{◌>>=◌}
 use Rattle.types.specs.Block.{action_typed, statements_typed}
-use Rattle.types.specs.Checker.{with_label, as_index, condition_in, integer_in}
+use Rattle.initializer_types.specs.Checker.{with_label, as_index, condition_in, integer_in}
 use Rattle.types.specs.Declaration.{declaration_typed, declarations_typed, parameters_declared, result_declared}
-use Rattle.types.specs.Initial.{initializer_of}
+use Rattle.initializer_types.specs.Initial.{initializer_of}
 use Rattle.types.specs.Program.{program_of}
 use Rattle.types.specs.Step.{own_vertex, step_typed, steps_typed, written_at}
 use Rattle.type_laws.specs.BrokenRules.{Breaks, InPart, Itself, breaks_itself, place}

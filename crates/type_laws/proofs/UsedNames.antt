@@ -22,10 +22,10 @@ use Rattle.expression_types.specs.Faults.{WithFaults, sure}
 use Rattle.expression_types.specs.Operators.{ConditionsTree, IntegersTree, first_condition, first_integer}
 use Rattle.expression_types.specs.ValueTree.{ValueTree}
 use Rattle.types.specs.Block.{action_typed, then_statement, closed, statements_typed}
-use Rattle.types.specs.Checker.{CheckerTree, counted, declared_in, integer_slot, with_label, restarted, as_index, condition_in, integer_in}
-use Rattle.types.specs.Declaration.{DeclaredTree, FunctionKindTree, MainKind, EdgeKind, VertexKind, FilterKind, NoKind, declaration_typed, declarations_typed, declare_function, kind, kind_fits}
-use Rattle.types.specs.Declaration.{main_declared, opened, steps_declared}
-use Rattle.types.specs.Initial.{apply_end_of, initializer_of}
+use Rattle.initializer_types.specs.Checker.{CheckerTree, counted, declared_in, integer_slot, with_label, restarted, as_index, condition_in, integer_in}
+use Rattle.initializer_types.specs.DeclarationForms.{FunctionKindTree, MainKind, EdgeKind, VertexKind, FilterKind, NoKind, kind}
+use Rattle.types.specs.Declaration.{DeclaredTree, declaration_typed, declarations_typed, declare_function, kind_fits, main_declared, opened, steps_declared}
+use Rattle.initializer_types.specs.Initial.{apply_end_of, initializer_of}
 use Rattle.type_laws.specs.NewNames.{names_after, names_inside}
 use Rattle.types.specs.Program.{no_declarations, program_of, set_count}
 use Rattle.types.specs.Statement.{add_vertex, apply, assign, print, reduce, reduce_entry, set_entry}

@@ -21,13 +21,13 @@ use Rattle.expression_types.specs.declared.scope.Inside.TheVariants as inside
 use Rattle.expression_types.specs.Expression.{used_name, value_of, vector_index}
 use Rattle.expression_types.specs.Faults.{WithFaults, fault_at, sure, ◌>>=◌}
 use Rattle.expression_types.specs.ValueTree.{ValueTree, Integer, Condition, Vertex, Set, ErrorValue, is_error, entity_set}
-use Rattle.types.specs.Checker.{CheckerTree, condition_slot, integer_slot, with_label, condition_in}
-use Rattle.types.specs.Declaration.{DeclaredTree, FunctionKindTree, EdgeKind, VertexKind, FilterKind, NoKind, begins, declaration_typed, declarations_typed, declare_constant_as, has_all, inside_of}
-use Rattle.types.specs.Declaration.{is_bool_type, is_vertex_type, kind_fits, kind_of, literal_or_fault, loads, opened, steps_declared, wanted, is_int_type}
-use Rattle.types.specs.Initial.{ApplyEndTree, InitializerTree, Members, Loaded, Degrees, ErrorInitializer, edge_function, apply_end_of, ends_given, filter_function, filter_named, filtered_set}
-use Rattle.types.specs.Initial.{filtered_by, initializer_of, is_all, is_degrees, is_edges, is_loaded, is_sound, names_error, is_error_end, is_wrong, loaded, initial_modified, modified_by, new_set}
-use Rattle.types.specs.Initial.{of_edges, vector_of, writes_vector, lacks_weights}
-use Rattle.types.specs.Literal.{literal_condition, literal_integer}
+use Rattle.initializer_types.specs.Checker.{CheckerTree, condition_slot, integer_slot, with_label, condition_in}
+use Rattle.initializer_types.specs.DeclarationForms.{FunctionKindTree, EdgeKind, VertexKind, FilterKind, NoKind, is_bool_type, is_vertex_type, kind_of, is_int_type, literal_condition, literal_integer}
+use Rattle.types.specs.Declaration.{DeclaredTree, begins, declaration_typed, declarations_typed, declare_constant_as, has_all, inside_of}
+use Rattle.types.specs.Declaration.{kind_fits, literal_or_fault, loads, opened, steps_declared, wanted}
+use Rattle.initializer_types.specs.Initial.{ApplyEndTree, InitializerTree, Members, Loaded, Degrees, ErrorInitializer, edge_function, apply_end_of, ends_given, filter_function, filter_named, filtered_set}
+use Rattle.initializer_types.specs.Initial.{filtered_by, initializer_of, is_all, is_degrees, is_edges, is_loaded, is_sound, names_error, is_error_end, is_wrong, loaded, initial_modified, modified_by, new_set}
+use Rattle.initializer_types.specs.Initial.{of_edges, vector_of, writes_vector, lacks_weights}
 use Rattle.types.specs.Program.{no_declarations, program_of, set_count}
 use Rattle.types.specs.Step.{declare_step_as, may_reduce, may_set, set_entry_step, step_after, step_typed, steps_after, steps_typed}
 use Rattle.type_laws.specs.WellTyped.{ActionFits, BlockFits, ConstantFits, DeclarationFits, FunctionFits, IsAllVertices, IsLoaded, IsNumberOrTruth, IsOutDegrees}

@@ -20,12 +20,11 @@ use Rattle.expression_types.specs.Expression.{index_value, used_name, value_of, 
 use Rattle.expression_types.specs.Faults.{number_of}
 use Rattle.expression_types.specs.ScopeTree.{found}
 use Rattle.expression_types.specs.ValueTree.{ValueTree, Integer, Condition, Vertex, Set, ErrorValue, is_error, entity_set, named_vector}
-use Rattle.types.specs.Checker.{CheckerTree}
-use Rattle.types.specs.Declaration.{DeclaredTree, FunctionKindTree, NoKind, declarations_typed, kind}
-use Rattle.types.specs.Initial.{ApplyEndTree, InitializerTree, Typed, Members, Loaded, Degrees, ErrorInitializer, edge_function, apply_end_of, filter_function}
-use Rattle.types.specs.Initial.{initializer_of, is_all, is_degrees, is_edges, is_loaded, is_sound, is_wrong, lacks_weights, names_error, vector_of}
-use Rattle.types.specs.Initial.{vertex_function, writes_vector}
-use Rattle.types.specs.Literal.{literal_condition, literal_integer}
+use Rattle.initializer_types.specs.Checker.{CheckerTree}
+use Rattle.initializer_types.specs.DeclarationForms.{FunctionKindTree, NoKind, kind, literal_condition, literal_integer}
+use Rattle.types.specs.Declaration.{DeclaredTree, declarations_typed}
+use Rattle.initializer_types.specs.Initial.{ApplyEndTree, InitializerTree, Typed, Members, Loaded, Degrees, ErrorInitializer, edge_function, apply_end_of, filter_function}
+use Rattle.initializer_types.specs.Initial.{initializer_of, is_all, is_degrees, is_edges, is_loaded, is_sound, is_wrong, lacks_weights, names_error, vector_of, vertex_function, writes_vector}
 use Rattle.types.specs.Program.{no_declarations, set_count}
 use Rattle.types.specs.Statement.{has_ends}
 use Rattle.types.specs.Step.{own_vertex, same_endpoint, same_reduction}

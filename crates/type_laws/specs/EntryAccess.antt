@@ -6,7 +6,7 @@ use Rattle.syntax.specs.SourceTrees.{ExpressionTree, ConjunctionTree, Comparison
 use Rattle.syntax.specs.SourceTrees.{StatementKindTree, BlockTree, DeclarationTree}
 use Rattle.syntax.specs.Terminals.{Identifier}
 use Rattle.expression_types.specs.BareNames.{lone_name}
-use Rattle.types.specs.Declaration.{main_bytes}
+use Rattle.initializer_types.specs.DeclarationForms.{main_bytes}
 
 -- the expression is one of the names, alone or in parentheses
 abbrev pub IsAmong : List (List ℕ) → Option Identifier → Type 0

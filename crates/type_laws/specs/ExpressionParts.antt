@@ -8,7 +8,7 @@ use Rattle.expression_types.specs.Expression.{comparison_value, conjunction_valu
 use Rattle.expression_types.specs.Expression.{unary_value, used_name, value_of}
 use Rattle.expression_types.specs.ScopeTree.{ScopeTree}
 use Rattle.expression_types.specs.ValueTree.{is_error}
-use Rattle.types.specs.Initial.{names_error}
+use Rattle.initializer_types.specs.Initial.{names_error}
 
 -- an expression at each level of the grammar, the index of an entry, and a name in an expression
 pub data Form : Type 0 where

@@ -12,8 +12,7 @@ use Rattle.syntax.specs.declared.declaration.DeclaredType.TheVariants as declare
 use Rattle.typed_tree.specs.declared.expression.Endpoint.TheVariants as endpoint
 use Rattle.expression_types.specs.declared.scope.Inside.{Inside}
 use Rattle.expression_types.specs.declared.scope.Inside.TheVariants as inside
-use Rattle.types.specs.Declaration.{main_bytes}
-use Rattle.types.specs.Literal.{literal_condition, literal_integer}
+use Rattle.initializer_types.specs.DeclarationForms.{main_bytes, literal_condition, literal_integer}
 use Rattle.type_laws.specs.EntryAccess.{HasNoEntry}
 use Rattle.type_laws.specs.ExpressionTypes.{ExpressionHas, IsNumberExpression, IsTruth, IsVectorName, NameHas, Set, Vertex}
 use Rattle.type_laws.specs.Meanings.{Known, IsNew, LabelIsNew, Meaning, Meanings, Means, MeansEdges, known_after, known_behind, labelled_known, with_meaning}

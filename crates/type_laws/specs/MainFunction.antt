@@ -3,7 +3,7 @@ use Rattle.std.specs.Prelude.{◌≡◌, ◌⊎◌, ℕ, suc, List, [], ◌∷�
 use Rattle.std.specs.Str.{bytes_eq}
 use Rattle.syntax.specs.Terminals.{Identifier}
 use Rattle.syntax.specs.SourceTrees.{ParameterTree, DeclarationTree, Constant, Function}
-use Rattle.types.specs.Declaration.{main_bytes}
+use Rattle.initializer_types.specs.DeclarationForms.{main_bytes}
 
 -- the name is `main`, and there are neither parameters nor a result
 abbrev pub IsMain : Identifier → List ParameterTree → Option ParameterTree → Type 0

@@ -2,7 +2,7 @@
 use Rattle.std.specs.Prelude.{◌≢◌}
 use Rattle.syntax.specs.SourceTrees.{StatementKindTree, Declare, While, For, If, IfElse, Print, Assign, Reduce, SetEntry, ReduceEntry, AddVertex, Apply}
 use Rattle.syntax.specs.SourceTrees.{BlockTree, Empty, Then, DeclarationTree, Constant, Function}
-use Rattle.types.specs.Declaration.{main_bytes}
+use Rattle.initializer_types.specs.DeclarationForms.{main_bytes}
 
 abbrev mutual
   -- there is no `print` in what a statement does, at any depth

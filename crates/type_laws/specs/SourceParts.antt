@@ -11,8 +11,9 @@ use Rattle.typed_tree.specs.FunctionStatementTree.{NoStep}
 use Rattle.expression_types.specs.declared.scope.Entity.TheVariants as entity
 use Rattle.expression_types.specs.ScopeTree.{ScopeTree, entered}
 use Rattle.types.specs.Block.{action_typed, closed, statements_typed}
-use Rattle.types.specs.Checker.{CheckerTree, counted, declared_in, integer_slot, with_label, restarted, in_scope}
-use Rattle.types.specs.Declaration.{DeclaredTree, FunctionKindTree, MainKind, declaration_typed, inside_of, kind, opened, parameter, takes_weight}
+use Rattle.initializer_types.specs.Checker.{CheckerTree, counted, declared_in, integer_slot, with_label, restarted, in_scope}
+use Rattle.initializer_types.specs.DeclarationForms.{FunctionKindTree, MainKind, kind}
+use Rattle.types.specs.Declaration.{DeclaredTree, declaration_typed, inside_of, opened, parameter, takes_weight}
 use Rattle.types.specs.Program.{no_declarations, set_count}
 use Rattle.types.specs.Step.{step_typed, steps_after, steps_typed, with_writes}
 use Rattle.type_laws.specs.ExpressionParts as form

@@ -5,8 +5,7 @@ use Rattle.syntax.specs.declared.declaration.DeclaredType.{DeclaredType}
 use Rattle.syntax.specs.declared.declaration.DeclaredType.TheVariants as declared
 use Rattle.syntax.specs.SourceTrees as source
 use Rattle.syntax.specs.SourceTrees.{InitialTree, ParameterTree, StatementKindTree, BlockTree, DeclarationTree}
-use Rattle.types.specs.Declaration.{main_bytes}
-use Rattle.types.specs.Literal.{literal_condition, literal_integer}
+use Rattle.initializer_types.specs.DeclarationForms.{main_bytes, literal_condition, literal_integer}
 
 -- `load(argv[1])`
 abbrev pub IsLoaded : InitialTree → Type 0

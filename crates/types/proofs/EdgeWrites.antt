@@ -25,12 +25,13 @@ use Rattle.expression_types.specs.declared.scope.Inside.TheVariants as inside
 use Rattle.expression_types.specs.Expression.{index_value, used_name, value_of, vector_index}
 use Rattle.expression_types.specs.ScopeTree.{found, ScopeTree, declared_over, entered}
 use Rattle.expression_types.specs.ValueTree.{ValueTree}
-use Rattle.types.specs.Checker.{CheckerTree, integer_slot, condition_slot, declared_in, with_label, new_label, restarted, in_scope, integer_in}
+use Rattle.initializer_types.specs.Checker.{CheckerTree, integer_slot, condition_slot, declared_in, with_label, new_label, restarted, in_scope, integer_in}
 use Rattle.types.specs.Block.{statements_typed}
-use Rattle.types.specs.Declaration.{DeclaredTree, FunctionKindTree, MainKind, EdgeKind, VertexKind, FilterKind, NoKind, declaration_typed, declarations_typed, declare_constant_as, declare_function}
-use Rattle.types.specs.Declaration.{declare_name, function_of, inside_of, kind, opened, parameter, parameters_declared, result_declared, result_entity, with_main_block, takes_weight}
+use Rattle.initializer_types.specs.DeclarationForms.{FunctionKindTree, MainKind, EdgeKind, VertexKind, FilterKind, NoKind, kind}
+use Rattle.types.specs.Declaration.{DeclaredTree, declaration_typed, declarations_typed, declare_constant_as, declare_function}
+use Rattle.types.specs.Declaration.{declare_name, function_of, inside_of, opened, parameter, parameters_declared, result_declared, result_entity, with_main_block, takes_weight}
 use Rattle.types.specs.EdgeWrites.{ReducesInOneWay, SetsNoEntry, StepReduces, StepSetsNoEntry, StepsReduce}
-use Rattle.types.specs.Initial.{InitializerTree, initializer_of}
+use Rattle.initializer_types.specs.Initial.{InitializerTree, initializer_of}
 use Rattle.types.specs.Step.{assigned_step, declare_step_as, entry_step, may_reduce, may_set, one_reduction, own_vertex, reduce_entry_step, reduced_as, reduced_step, reduction_step, same_reduction}
 use Rattle.types.specs.Step.{step_after, step_typed, steps_after, steps_typed, with_writes, written_at, written_with}
 use Rattle.types.specs.Program.{no_declarations, program_of, set_count}

@@ -1,11 +1,8 @@
-pub mod Applies
 pub mod DeclarationLaws
 pub mod EdgeWrites
 pub mod Kept
-pub mod Literals
 pub mod SourceOffsets
 pub mod Sources
 pub mod StatementOffsets
 pub mod StepOffsets
-pub mod ValueOffsets
 pub mod Walk

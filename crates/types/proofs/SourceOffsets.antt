@@ -20,15 +20,15 @@ use Rattle.expression_types.specs.declared.scope.Entity.{Entity}
 use Rattle.expression_types.specs.declared.scope.Entity.TheVariants as entity
 use Rattle.expression_types.proofs.FaultOffsets.{FaultsStand, both_stand, if_stand}
 use Rattle.types.specs.Block.{statements_typed}
-use Rattle.types.specs.Checker.{CheckerTree, declared_in, restarted, in_scope}
-use Rattle.types.specs.Declaration.{DeclaredTree, FunctionKindTree, MainKind, EdgeKind, VertexKind, FilterKind, NoKind, begins, declaration_typed, declarations_typed, declare_constant_as}
-use Rattle.types.specs.Declaration.{declare_function, declare_name, function_declared, has_all, kind, kind_fits, literal_or_fault, loads, main_declared, next_name, only_edges, opened, parameter}
+use Rattle.initializer_types.specs.Checker.{CheckerTree, declared_in, restarted, in_scope}
+use Rattle.initializer_types.specs.DeclarationForms.{FunctionKindTree, MainKind, EdgeKind, VertexKind, FilterKind, NoKind, kind, literal_condition, literal_integer}
+use Rattle.types.specs.Declaration.{DeclaredTree, begins, declaration_typed, declarations_typed, declare_constant_as}
+use Rattle.types.specs.Declaration.{declare_function, declare_name, function_declared, has_all, kind_fits, literal_or_fault, loads, main_declared, next_name, only_edges, opened, parameter}
 use Rattle.types.specs.Declaration.{parameters_declared, result_declared, result_entity, steps_declared, wanted, takes_weight}
-use Rattle.types.specs.Initial.{InitializerTree, initializer_of, is_all, is_degrees, is_loaded, is_sound}
-use Rattle.types.specs.Literal.{literal_condition, literal_integer}
+use Rattle.initializer_types.specs.Initial.{InitializerTree, initializer_of, is_all, is_degrees, is_loaded, is_sound}
 use Rattle.types.specs.Program.{chain_calls, main_of, no_declarations, program_of, schedule_call, schedule_calls, set_count}
 use Rattle.types.specs.Step.{steps_typed}
-use Rattle.types.proofs.ValueOffsets.{initializer_stands}
+use Rattle.initializer_types.proofs.ValueOffsets.{initializer_stands}
 use Rattle.types.proofs.StatementOffsets.{declared_in_stands, statements_stand}
 use Rattle.types.proofs.StepOffsets.{steps_stand}
 

@@ -22,13 +22,13 @@ use Rattle.expression_types.specs.Faults.{WithFaults}
 use Rattle.expression_types.specs.ValueTree.{ValueTree, Integer, Condition, Vertex, Set, ErrorValue, entity_set}
 use Rattle.expression_types.proofs.FaultOffsets.{FaultsStand, both_stand, declared_stands, if_stand, used_stands, value_stands, vector_stands}
 use Rattle.types.specs.Block.{action_typed, then_statement, closed, in_place, statements_typed}
-use Rattle.types.specs.Checker.{CheckerTree, condition_slot, counted, declared_in, integer_slot, with_label, new_label, set_slot, as_index, integer_wanted, condition_in, integer_in}
-use Rattle.types.specs.Initial.{ApplyEndTree, InitializerTree, initializer_condition, edge_function, apply_end_of, initializer_of, initializer_integer, is_edges, names_error, is_error_end, is_wrong}
-use Rattle.types.specs.Initial.{initializer_members, vertex_function, lacks_weights}
+use Rattle.initializer_types.specs.Checker.{CheckerTree, condition_slot, counted, declared_in, integer_slot, with_label, new_label, set_slot, as_index, integer_wanted, condition_in, integer_in}
+use Rattle.initializer_types.specs.Initial.{ApplyEndTree, InitializerTree, initializer_condition, edge_function, apply_end_of, initializer_of, initializer_integer, is_edges, names_error, is_error_end, is_wrong}
+use Rattle.initializer_types.specs.Initial.{initializer_members, vertex_function, lacks_weights}
 use Rattle.types.specs.Statement.{add_vertex, added_to_set, applied, apply, assign, assigned, declare_as, edges_applied, has_ends, print, printed, reduce, reduce_entry, reduced, set_applied}
 use Rattle.types.specs.Statement.{set_entry, vertices_applied}
-use Rattle.types.proofs.ValueOffsets.{as_index_stands, as_integer_stands, initializer_condition_stands, condition_in_stands, end_stands, initializer_stands, initializer_integer_stands}
-use Rattle.types.proofs.ValueOffsets.{integer_in_stands, initializer_members_stands}
+use Rattle.initializer_types.proofs.ValueOffsets.{as_index_stands, as_integer_stands, initializer_condition_stands, condition_in_stands, end_stands, initializer_stands, initializer_integer_stands}
+use Rattle.initializer_types.proofs.ValueOffsets.{integer_in_stands, initializer_members_stands}
 
 -- names and labels
 pub declared_in_stands : (P : ℕ → Type 0) (c : CheckerTree) (name : Identifier) (e : Entity) → P name.at → FaultsStand P (declared_in c name e)

@@ -16,7 +16,7 @@ use Rattle.expression_types.specs.declared.fault.Fault.{Fault}
 use Rattle.expression_types.specs.declared.scope.Entity.TheVariants as entity
 use Rattle.expression_types.specs.Faults.{WithFaults, least_of, outcome, sure, ◌>>=◌}
 use Rattle.expression_types.proofs.Steps.{bind-bind, outcome_then}
-use Rattle.types.specs.Checker.{CheckerTree, condition_in, declared_in, in_scope, integer_in, integer_slot, with_label}
+use Rattle.initializer_types.specs.Checker.{CheckerTree, condition_in, declared_in, in_scope, integer_in, integer_slot, with_label}
 use Rattle.types.specs.inside.BlockMeaning.{BlockMeaning, For, If, IfElse, IsWalked, While, block_typed, inner_typed, noted, row_then, statement_typed}
 use Rattle.types.proofs.Sources.{for_loop_tree-block, statement_kind_tree-While, statement_kind_tree-If, statement_kind_tree-IfElse}
 

@@ -6,7 +6,7 @@ use Rattle.syntax.specs.SourceTrees as source
 use Rattle.typed_tree.specs.BlockTree.{StatementKindTree, BlockTree, If, IfElse, While, For, Empty, Then}
 use Rattle.expression_types.specs.Faults.{WithFaults, sure, ◌>>=◌}
 use Rattle.expression_types.specs.declared.scope.Entity.TheVariants as entity
-use Rattle.types.specs.Checker.{CheckerTree, integer_slot, in_scope, declared_in, with_label, counted, integer_in, condition_in}
+use Rattle.initializer_types.specs.Checker.{CheckerTree, integer_slot, in_scope, declared_in, with_label, counted, integer_in, condition_in}
 use Rattle.types.specs.Statement.{declare_variable, assign, reduce, set_entry, reduce_entry, add_vertex, print, apply}
 
 -- a statement that declares nothing

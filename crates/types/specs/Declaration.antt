@@ -1,6 +1,5 @@
 -- Typing of declarations.
 use Rattle.std.specs.Prelude.{[], ℕ, pos, Bool, true, false, not, ◌&&◌, ◌||◌, if◌then◌else◌, List, ◌∷◌, ◌++◌, length, Option, Some, None}
-use Rattle.std.specs.Str.{bytes_eq}
 use Rattle.syntax.specs.Terminals.{Identifier}
 use Rattle.syntax.specs.declared.declaration.DeclaredType.{DeclaredType}
 use Rattle.syntax.specs.SourceTrees.{ParameterTree, InitialTree, DeclarationTree, Constant, Function}
@@ -21,9 +20,9 @@ use Rattle.expression_types.specs.declared.fault.TypeRule.TheVariants as rule
 use Rattle.expression_types.specs.declared.scope.Entity.TheVariants as entity
 use Rattle.expression_types.specs.declared.scope.Inside.TheVariants as inside
 use Rattle.types.specs.Block.{statements_typed}
-use Rattle.types.specs.Checker.{CheckerTree, condition_slot, in_scope, declared_in, restarted}
-use Rattle.types.specs.Initial.{InitializerTree, ErrorInitializer, is_all, is_degrees, is_loaded, is_sound, initializer_of}
-use Rattle.types.specs.Literal.{literal_integer, literal_condition}
+use Rattle.initializer_types.specs.Checker.{CheckerTree, condition_slot, in_scope, declared_in, restarted}
+use Rattle.initializer_types.specs.Initial.{InitializerTree, ErrorInitializer, is_all, is_degrees, is_loaded, is_sound, initializer_of}
+use Rattle.initializer_types.specs.DeclarationForms.{FunctionKindTree, MainKind, EdgeKind, VertexKind, FilterKind, NoKind, is_int_type, is_vertex_type, kind, literal_integer, literal_condition}
 use Rattle.types.specs.Step.{steps_typed, with_writes}
 
 -- what was declared so far, beside what the checker knows
@@ -108,63 +107,6 @@ declare_constant_as d at name initial declared.WeightedEdgeSet initializer = dec
 
 abbrev pub declare_constant : DeclaredTree → ℕ → ParameterTree → InitialTree → WithFaults DeclaredTree
 declare_constant d at p initial = initializer_of d.checker at initial >>= declare_constant_as d at p.name initial p.declared
-
--- what a function is, by its name, its parameters and its result; of an edge function whether its third parameter is the edge's weight
-pub data FunctionKindTree : Type 0 where
-  MainKind : (fits : Bool) → FunctionKindTree
-  EdgeKind : (weighted : Bool) → FunctionKindTree
-  VertexKind : FunctionKindTree
-  FilterKind : FunctionKindTree
-  NoKind : FunctionKindTree
-
--- `main`
-abbrev pub main_bytes : List ℕ
-main_bytes = 109 ∷ 97 ∷ 105 ∷ 110 ∷ []
-
-abbrev pub is_vertex_type : DeclaredType → Bool
-is_vertex_type declared.Int = false
-is_vertex_type declared.Bool = false
-is_vertex_type declared.Vertex = true
-is_vertex_type declared.VertexSet = false
-is_vertex_type declared.Vector = false
-is_vertex_type declared.EdgeSet = false
-is_vertex_type declared.WeightedEdgeSet = false
-
-abbrev pub is_int_type : DeclaredType → Bool
-is_int_type declared.Int = true
-is_int_type declared.Bool = false
-is_int_type declared.Vertex = false
-is_int_type declared.VertexSet = false
-is_int_type declared.Vector = false
-is_int_type declared.EdgeSet = false
-is_int_type declared.WeightedEdgeSet = false
-
-abbrev pub is_bool_type : DeclaredType → Bool
-is_bool_type declared.Int = false
-is_bool_type declared.Bool = true
-is_bool_type declared.Vertex = false
-is_bool_type declared.VertexSet = false
-is_bool_type declared.Vector = false
-is_bool_type declared.EdgeSet = false
-is_bool_type declared.WeightedEdgeSet = false
-
-abbrev pub takes_nothing : List ParameterTree → Option ParameterTree → Bool
-takes_nothing [] None = true
-takes_nothing [] (Some result) = false
-takes_nothing (p ∷ others) result = false
-
-abbrev pub kind_of : List ParameterTree → Option ParameterTree → FunctionKindTree
-kind_of [] result = NoKind
-kind_of (v ∷ []) None = if is_vertex_type v.declared then VertexKind else NoKind
-kind_of (v ∷ []) (Some result) = if is_vertex_type v.declared && is_bool_type result.declared then FilterKind else NoKind
-kind_of (src ∷ dst ∷ []) None = if is_vertex_type src.declared && is_vertex_type dst.declared then EdgeKind false else NoKind
-kind_of (src ∷ dst ∷ []) (Some result) = NoKind
-kind_of (src ∷ dst ∷ w ∷ []) None = if is_vertex_type src.declared && is_vertex_type dst.declared && is_int_type w.declared then EdgeKind true else NoKind
-kind_of (src ∷ dst ∷ w ∷ []) (Some result) = NoKind
-kind_of (a ∷ b ∷ c ∷ d ∷ others) result = NoKind
-
-abbrev pub kind : List ℕ → List ParameterTree → Option ParameterTree → FunctionKindTree
-kind name parameters result = if bytes_eq name main_bytes then MainKind (takes_nothing parameters result) else kind_of parameters result
 
 abbrev pub inside_of : FunctionKindTree → Inside
 inside_of (MainKind fits) = inside.Main

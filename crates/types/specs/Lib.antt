@@ -1,9 +1,6 @@
 pub mod Block
-pub mod Checker
 pub mod Declaration
 pub mod EdgeWrites
-pub mod Initial
-pub mod Literal
 pub mod Program
 pub mod Refusal
 pub mod Statement

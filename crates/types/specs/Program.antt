@@ -12,7 +12,7 @@ use Rattle.expression_types.specs.declared.fault.Fault.{Fault}
 use Rattle.expression_types.specs.declared.fault.TypeRule.TheVariants as rule
 use Rattle.expression_types.specs.Faults.{least_of, WithFaults, sure, fault_at, ◌>>=◌}
 use Rattle.expression_types.specs.ScopeTree.{empty_scope}
-use Rattle.types.specs.Checker.{without_ends}
+use Rattle.initializer_types.specs.Checker.{without_ends}
 use Rattle.types.specs.Declaration.{DeclaredTree, declarations_typed}
 
 -- one more, where it is the type of a vertex set

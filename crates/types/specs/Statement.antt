@@ -16,9 +16,9 @@ use Rattle.expression_types.specs.Expression.{used_name, value_of, vector_index}
 use Rattle.expression_types.specs.Faults.{WithFaults, sure, fault_at, ◌>>=◌}
 use Rattle.expression_types.specs.ScopeTree.{ScopeTree}
 use Rattle.expression_types.specs.ValueTree.{ValueTree, Integer, Condition, Vertex, Set, ErrorValue, entity_set}
-use Rattle.types.specs.Checker.{CheckerTree, integer_slot, condition_slot, set_slot, declared_in, some_integer, integer_wanted, as_index, integer_in}
-use Rattle.types.specs.Initial.{InitializerTree, ApplyEndTree, initializer_of, apply_end_of, is_wrong, is_error_end, ends_given, names_error, is_edges}
-use Rattle.types.specs.Initial.{lacks_weights, edge_function, vertex_function, initializer_integer, initializer_condition, initializer_members}
+use Rattle.initializer_types.specs.Checker.{CheckerTree, integer_slot, condition_slot, set_slot, declared_in, some_integer, integer_wanted, as_index, integer_in}
+use Rattle.initializer_types.specs.Initial.{InitializerTree, ApplyEndTree, initializer_of, apply_end_of, is_wrong, is_error_end, ends_given, names_error, is_edges}
+use Rattle.initializer_types.specs.Initial.{lacks_weights, edge_function, vertex_function, initializer_integer, initializer_condition, initializer_members}
 
 -- what is in place of a faulty statement
 abbrev pub no_action : StatementKindTree

@@ -23,8 +23,8 @@ use Rattle.expression_types.specs.ValueTree.{ValueTree, Integer, Condition, Vert
 use Rattle.expression_types.specs.declared.fault.TypeRule.TheVariants as rule
 use Rattle.expression_types.specs.declared.scope.Entity.TheVariants as entity
 use Rattle.expression_types.specs.declared.scope.Inside.TheVariants as inside
-use Rattle.types.specs.Checker.{CheckerTree, integer_slot, condition_slot, in_scope, declared_in, with_label, integer_wanted, integer_in, condition_in}
-use Rattle.types.specs.Initial.{InitializerTree, apply_end_of, initializer_of, initializer_integer, initializer_condition}
+use Rattle.initializer_types.specs.Checker.{CheckerTree, integer_slot, condition_slot, in_scope, declared_in, with_label, integer_wanted, integer_in, condition_in}
+use Rattle.initializer_types.specs.Initial.{InitializerTree, apply_end_of, initializer_of, initializer_integer, initializer_condition}
 
 -- what is in place of a faulty statement
 abbrev pub no_step : FunctionStatementTree

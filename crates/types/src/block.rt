@@ -1,20 +1,19 @@
 //! Blocks: typing of statements, one after the other, in `main` and in functions.
-ghost use Rattle.std.specs.Prelude.{OnOk};
+ghost use Rattle.std.specs.Prelude.{◌≡◌, OnOk};
 ghost use Rattle.syntax.specs.SourceTrees.{Assign, Declare, Reduce};
 ghost use Rattle.syntax.specs.SourceViews.{statement_kind_tree, for_loop_tree, initial_tree, parameter_tree, simple_action_tree, block_tree};
 ghost use Rattle.expression_types.specs.Faults.{ReportsFaults};
 ghost use Rattle.expression_types.specs.ScopeTree.{KeepsNames};
 ghost use Rattle.types.specs.inside.BlockMeaning.{block_typed, declared_from, inner_typed, statement_typed};
-ghost use Rattle.types.specs.inside.Checker.{checker_of};
-ghost use Rattle.types.specs.inside.Initializer.{initializer_tree};
+ghost use Rattle.initializer_types.specs.Views.{checker_of, initializer_tree};
 
 use crate::block_kind::{BlockKind, Compound};
-use crate::checker::{Checker, declare, declare_loop_variable, label};
-use crate::entry::WrittenEntry;
-use crate::initial::{Initializer, read_initial};
-use crate::wanted::{condition, integer};
 use apply_options::Reduction;
-use expression_types::{Fault, entity, type_expression};
+use expression_types::{entity, type_expression};
+use initializer_types::{
+    Checker, Initializer, WrittenEntry, condition, declare, declare_loop_variable, integer, label,
+    read_initial,
+};
 use std::alloc::AllocError;
 use syntax::{Action, Expression, ForLoop, Initial, Name, Parameter, SimpleAction, Statement};
 
@@ -23,15 +22,14 @@ use syntax::{Action, Expression, ForLoop, Initial, Name, Parameter, SimpleAction
 pub(crate) fn statements<K: BlockKind>(
     block: &[Statement],
     checker: &mut Checker,
-    first_fault: &mut Option<Fault>,
 ) -> Result<Vec<K::Statement>, AllocError>
-    ensures typed { ReportsFaults (λ b. (K.meaning.row_tree b.items, checker_of checker.new)) first_fault.old first_fault.new result
+    ensures typed { ReportsFaults (λ b. (K.meaning.row_tree b.items, checker_of checker.new)) checker.old.first_fault checker.new.first_fault result
         (block_typed K.meaning (checker_of checker.old) (block_tree block.now)) }
     ensures kept { OnOk result (KeepsNames checker.old.scope checker.new.scope) }
 {
     let mut typed = Vec::new(checker.alloc);
     'statements: for statement in block {
-        let next = one::<K>(statement, checker, first_fault)?;
+        let next = one::<K>(statement, checker)?;
         typed.push(next)?;
     }
     Ok(typed)
@@ -42,15 +40,14 @@ pub(crate) fn statements<K: BlockKind>(
 fn one<K: BlockKind>(
     statement: &Statement,
     checker: &mut Checker,
-    first_fault: &mut Option<Fault>,
 ) -> Result<K::Statement, AllocError>
-    ensures typed { ReportsFaults (λ s. (K.meaning.statement_tree s, checker_of checker.new)) first_fault.old first_fault.new result
+    ensures typed { ReportsFaults (λ s. (K.meaning.statement_tree s, checker_of checker.new)) checker.old.first_fault checker.new.first_fault result
         (statement_typed K.meaning (checker_of checker.old) statement.now.label (statement_kind_tree statement.now.action)) }
     ensures kept { OnOk result (KeepsNames checker.old.scope checker.new.scope) }
 {
-    let label = label(checker, &statement.label, first_fault)?;
+    let label = label(checker, &statement.label)?;
     let number = K::number(checker, label)?;
-    let action = action::<K>(&statement.action, checker, first_fault)?;
+    let action = action::<K>(&statement.action, checker)?;
     Ok(K::labelled(number, label, action))
 }
 
@@ -59,40 +56,47 @@ fn one<K: BlockKind>(
 fn inner<K: BlockKind>(
     block: &[Statement],
     checker: &mut Checker,
-    first_fault: &mut Option<Fault>,
 ) -> Result<Vec<K::Statement>, AllocError>
-    ensures typed { ReportsFaults (λ b. (K.meaning.row_tree b.items, checker_of checker.new)) first_fault.old first_fault.new result
+    ensures typed { ReportsFaults (λ b. (K.meaning.row_tree b.items, checker_of checker.new)) checker.old.first_fault checker.new.first_fault result
         (inner_typed K.meaning (checker_of checker.old) (block_tree block.now)) }
     ensures kept { OnOk result (KeepsNames checker.old.scope checker.new.scope) }
 {
     let mark = checker.scope.mark();
-    let typed = statements::<K>(block, checker, first_fault)?;
+    let typed = statements::<K>(block, checker)?;
     checker.scope.leave(mark);
     Ok(typed)
 }
 
 /// What a statement does.
 #[cycle(statements)]
-fn action<K: BlockKind>(
-    action: &Action,
-    checker: &mut Checker,
-    first_fault: &mut Option<Fault>,
-) -> Result<K::Action, AllocError>
-    ensures typed { ReportsFaults (λ a. (K.meaning.action_tree a, checker_of checker.new)) first_fault.old first_fault.new result
+fn action<K: BlockKind>(action: &Action, checker: &mut Checker) -> Result<K::Action, AllocError>
+    ensures typed { ReportsFaults (λ a. (K.meaning.action_tree a, checker_of checker.new)) checker.old.first_fault checker.new.first_fault result
         (K.meaning.action_typed (checker_of checker.old) (statement_kind_tree action.now)) }
     ensures kept { OnOk result (KeepsNames checker.old.scope checker.new.scope) }
 {
     match action {
-        Action::Simple(action) => without_block::<K>(action, checker, first_fault),
+        Action::Simple(action) => without_block::<K>(action, checker),
         Action::While { at, test, body } => {
-            K::note_loop(*at, first_fault);
-            let test = condition(checker.alloc, &checker.scope, *at, test, first_fault)?;
-            let body = inner::<K>(body, checker, first_fault)?;
+            K::note_loop(*at, &mut checker.first_fault);
+            let test = condition(
+                checker.alloc,
+                &checker.scope,
+                *at,
+                test,
+                &mut checker.first_fault,
+            )?;
+            let body = inner::<K>(body, checker)?;
             Ok(K::with_blocks(checker.alloc, Compound::While(test, body)))
         }
         Action::If { at, test, body } => {
-            let test = condition(checker.alloc, &checker.scope, *at, test, first_fault)?;
-            let body = inner::<K>(body, checker, first_fault)?;
+            let test = condition(
+                checker.alloc,
+                &checker.scope,
+                *at,
+                test,
+                &mut checker.first_fault,
+            )?;
+            let body = inner::<K>(body, checker)?;
             Ok(K::with_blocks(checker.alloc, Compound::If(test, body)))
         }
         Action::IfElse {
@@ -101,45 +105,47 @@ fn action<K: BlockKind>(
             body,
             otherwise,
         } => {
-            let test = condition(checker.alloc, &checker.scope, *at, test, first_fault)?;
-            let body = inner::<K>(body, checker, first_fault)?;
-            let other = inner::<K>(otherwise, checker, first_fault)?;
+            let test = condition(
+                checker.alloc,
+                &checker.scope,
+                *at,
+                test,
+                &mut checker.first_fault,
+            )?;
+            let body = inner::<K>(body, checker)?;
+            let other = inner::<K>(otherwise, checker)?;
             Ok(K::with_blocks(checker.alloc, Compound::IfElse(test, body, other)))
         }
-        Action::For(for_loop) => repeat::<K>(for_loop, checker, first_fault),
+        Action::For(for_loop) => repeat::<K>(for_loop, checker),
     }
 }
 
 /// A `for`, whose name is visible in its body.
 #[cycle(statements)]
-fn repeat<K: BlockKind>(
-    for_loop: &ForLoop,
-    checker: &mut Checker,
-    first_fault: &mut Option<Fault>,
-) -> Result<K::Action, AllocError>
-    ensures typed { ReportsFaults (λ a. (K.meaning.action_tree a, checker_of checker.new)) first_fault.old first_fault.new result
+fn repeat<K: BlockKind>(for_loop: &ForLoop, checker: &mut Checker) -> Result<K::Action, AllocError>
+    ensures typed { ReportsFaults (λ a. (K.meaning.action_tree a, checker_of checker.new)) checker.old.first_fault checker.new.first_fault result
         (K.meaning.action_typed (checker_of checker.old) (for_loop_tree for_loop.now)) }
     ensures kept { OnOk result (KeepsNames checker.old.scope checker.new.scope) }
 {
     let at = for_loop.at;
-    K::note_loop(at, first_fault);
+    K::note_loop(at, &mut checker.first_fault);
     let first = integer(
         checker.alloc,
         &checker.scope,
         at,
         &for_loop.first,
-        first_fault,
+        &mut checker.first_fault,
     )?;
     let limit = integer(
         checker.alloc,
         &checker.scope,
         at,
         &for_loop.limit,
-        first_fault,
+        &mut checker.first_fault,
     )?;
     let mark = checker.scope.mark();
-    let slot = declare_loop_variable(checker, &for_loop.name, first_fault)?;
-    let body = statements::<K>(&for_loop.body, checker, first_fault)?;
+    let slot = declare_loop_variable(checker, &for_loop.name)?;
+    let body = statements::<K>(&for_loop.body, checker)?;
     checker.scope.leave(mark);
     Ok(K::with_blocks(checker.alloc, Compound::For(slot.name, first, limit, body)))
 }
@@ -148,9 +154,8 @@ fn repeat<K: BlockKind>(
 fn without_block<K: BlockKind>(
     action: &SimpleAction,
     checker: &mut Checker,
-    first_fault: &mut Option<Fault>,
 ) -> Result<K::Action, AllocError>
-    ensures typed { ReportsFaults (λ a. (K.meaning.action_tree a, checker_of checker.new)) first_fault.old first_fault.new result
+    ensures typed { ReportsFaults (λ a. (K.meaning.action_tree a, checker_of checker.new)) checker.old.first_fault checker.new.first_fault result
         (K.meaning.action_typed (checker_of checker.old) (simple_action_tree action.now)) }
     ensures kept { OnOk result (KeepsNames checker.old.scope checker.new.scope) }
 {
@@ -159,21 +164,21 @@ fn without_block<K: BlockKind>(
             at,
             variable,
             initial,
-        } => declare_variable::<K>(checker, *at, variable, initial, first_fault),
-        SimpleAction::Print { at, value } => K::print(checker, *at, value, first_fault),
-        SimpleAction::Assign { name, value } => assign::<K>(checker, name, value, first_fault),
+        } => declare_variable::<K>(checker, *at, variable, initial),
+        SimpleAction::Print { at, value } => K::print(checker, *at, value),
+        SimpleAction::Assign { name, value } => assign::<K>(checker, name, value),
         SimpleAction::Reduce {
             name,
             reduction,
             value,
-        } => reduce::<K>(checker, name, *reduction, value, first_fault),
+        } => reduce::<K>(checker, name, *reduction, value),
         SimpleAction::SetEntry {
             vector,
             index,
             value,
         } => {
             let written = WrittenEntry { vector, index };
-            K::set_entry(checker, written, value, first_fault)
+            K::set_entry(checker, written, value)
         }
         SimpleAction::ReduceEntry {
             vector,
@@ -182,16 +187,14 @@ fn without_block<K: BlockKind>(
             value,
         } => {
             let written = WrittenEntry { vector, index };
-            K::reduce_entry(checker, written, *reduction, value, first_fault)
+            K::reduce_entry(checker, written, *reduction, value)
         }
-        SimpleAction::AddVertex { set, vertex } => {
-            K::add_vertex(checker, set, vertex, first_fault)
-        }
+        SimpleAction::AddVertex { set, vertex } => { K::add_vertex(checker, set, vertex) }
         SimpleAction::Apply {
             target,
             ends,
             function,
-        } => Ok(K::apply(checker, target, ends, function, first_fault)),
+        } => Ok(K::apply(checker, target, ends, function)),
     }
 }
 
@@ -201,14 +204,13 @@ fn declare_variable<K: BlockKind>(
     at: usize,
     variable: &Parameter,
     initial: &Initial,
-    first_fault: &mut Option<Fault>,
 ) -> Result<K::Action, AllocError>
-    ensures typed { ReportsFaults (λ a. (K.meaning.action_tree a, checker_of checker.new)) first_fault.old first_fault.new result
+    ensures typed { ReportsFaults (λ a. (K.meaning.action_tree a, checker_of checker.new)) checker.old.first_fault checker.new.first_fault result
         (K.meaning.action_typed (checker_of checker.old) (Declare at (parameter_tree variable.now) (initial_tree initial.now))) }
     ensures kept { OnOk result (KeepsNames checker.old.scope checker.new.scope) }
 {
-    let initializer = read_initial(checker, at, initial, first_fault)?;
-    declare_initialized::<K>(checker, at, variable, initializer, first_fault)
+    let initializer = read_initial(checker, at, initial)?;
+    declare_initialized::<K>(checker, at, variable, initializer)
 }
 
 fn declare_initialized<K: BlockKind>(
@@ -216,46 +218,64 @@ fn declare_initialized<K: BlockKind>(
     at: usize,
     variable: &Parameter,
     initializer: Initializer,
-    first_fault: &mut Option<Fault>,
 ) -> Result<K::Action, AllocError>
-    ensures typed { ReportsFaults (λ a. (K.meaning.action_tree a, checker_of checker.new)) first_fault.old first_fault.new result
+    ensures typed { ReportsFaults (λ a. (K.meaning.action_tree a, checker_of checker.new)) checker.old.first_fault checker.new.first_fault result
         (declared_from K.meaning (checker_of checker.old) at (parameter_tree variable.now) (initializer_tree initializer)) }
     ensures kept { OnOk result (KeepsNames checker.old.scope checker.new.scope) }
 {
-    let (entity, action) = K::variable(checker, at, variable.declared, initializer, first_fault);
-    declare(checker, &variable.name, entity, first_fault)?;
+    let (entity, action) = K::variable(checker, at, variable.declared, initializer);
+    declare(checker, &variable.name, entity)?;
     Ok(action)
 }
 
 /// An assignment to a variable, or to a filter's result.
 fn assign<K: BlockKind>(
-    checker: &Checker,
+    checker: &mut Checker,
     name: &Name,
     initial: &Initial,
-    first_fault: &mut Option<Fault>,
 ) -> Result<K::Action, AllocError>
-    ensures { ReportsFaults (λ a. (K.meaning.action_tree a, checker_of checker.now)) first_fault.old first_fault.new result
-        (K.meaning.action_typed (checker_of checker.now) (Assign name.now (initial_tree initial.now))) }
+    ensures typed { ReportsFaults (λ a. (K.meaning.action_tree a, checker_of checker.new)) checker.old.first_fault checker.new.first_fault result
+        (K.meaning.action_typed (checker_of checker.old) (Assign name.now (initial_tree initial.now))) }
+    ensures kept { OnOk result (KeepsNames checker.old.scope checker.new.scope) }
 {
     let at = name.at();
-    let entity = entity(&checker.scope, name, first_fault);
-    let initializer = read_initial(checker, at, initial, first_fault)?;
-    Ok(K::assignment(checker.alloc, at, initializer, entity, first_fault))
+    let entity = entity(&checker.scope, name, &mut checker.first_fault);
+    let initializer = read_initial(checker, at, initial)?;
+    Ok(K::assignment(
+        checker.alloc,
+        at,
+        initializer,
+        entity,
+        &mut checker.first_fault,
+    ))
 }
 
 /// A reduction of a variable.
 fn reduce<K: BlockKind>(
-    checker: &Checker,
+    checker: &mut Checker,
     name: &Name,
     by: Reduction,
     value: &Expression,
-    first_fault: &mut Option<Fault>,
 ) -> Result<K::Action, AllocError>
-    ensures { ReportsFaults (λ a. (K.meaning.action_tree a, checker_of checker.now)) first_fault.old first_fault.new result
-        (K.meaning.action_typed (checker_of checker.now) (Reduce name.now by value.now)) }
+    ensures typed { ReportsFaults (λ a. (K.meaning.action_tree a, checker_of checker.new)) checker.old.first_fault checker.new.first_fault result
+        (K.meaning.action_typed (checker_of checker.old) (Reduce name.now by value.now)) }
+    ensures kept { checker.new.scope ≡ checker.old.scope }
 {
     let at = name.at();
-    let entity = entity(&checker.scope, name, first_fault);
-    let value = type_expression(checker.alloc, &checker.scope, at, value, first_fault)?;
-    Ok(K::reduction(checker.alloc, at, by, value, entity, first_fault))
+    let entity = entity(&checker.scope, name, &mut checker.first_fault);
+    let value = type_expression(
+        checker.alloc,
+        &checker.scope,
+        at,
+        value,
+        &mut checker.first_fault,
+    )?;
+    Ok(K::reduction(
+        checker.alloc,
+        at,
+        by,
+        value,
+        entity,
+        &mut checker.first_fault,
+    ))
 }

@@ -5,14 +5,11 @@ ghost use Rattle.syntax.specs.SourceViews.{ends_tree};
 ghost use Rattle.expression_types.specs.Faults.{ReportsFaults, least_of, outcome};
 ghost use Rattle.expression_types.specs.ValueTree.{value_tree};
 ghost use Rattle.types.specs.inside.BlockMeaning.{BlockMeaning, IsWalked, compound_tree};
-ghost use Rattle.types.specs.inside.Checker.{checker_of};
-ghost use Rattle.types.specs.inside.Initializer.{initializer_tree};
+ghost use Rattle.initializer_types.specs.Views.{checker_of, initializer_tree};
 
-use crate::checker::Checker;
-use crate::entry::WrittenEntry;
-use crate::initial::Initializer;
 use apply_options::Reduction;
 use expression_types::{Entity, Fault, Value};
+use initializer_types::{Checker, Initializer, WrittenEntry};
 use std::alloc::{AllocError, Global};
 use syntax::{DeclaredType, Ends, Expression, Name};
 use typed_tree::{BoolExpression, IntExpression};
@@ -47,7 +44,8 @@ pub(crate) trait BlockKind {
     fn number(checker: &mut Checker, label: Option<usize>) -> Result<u64, AllocError>
         ensures number { IfOk result (λ number. number ≡ meaning.number (checker_of checker.old)) }
         ensures counted { OnOk result (checker_of checker.new ≡ meaning.counted (checker_of checker.old)) }
-        ensures kept { checker.new.scope ≡ checker.old.scope };
+        ensures kept { checker.new.scope ≡ checker.old.scope }
+        ensures first_fault { checker.new.first_fault ≡ checker.old.first_fault };
 
     /// A statement of this number and label.
     fn labelled(number: u64, label: Option<usize>, action: Self::Action) -> Self::Statement
@@ -63,14 +61,14 @@ pub(crate) trait BlockKind {
 
     /// What a variable of this type is, and the statement that declares it.
     fn variable(
-        checker: &Checker,
+        checker: &mut Checker,
         at: usize,
         declared: DeclaredType,
         initializer: Initializer,
-        first_fault: &mut Option<Fault>,
     ) -> (Entity, Self::Action)
-        ensures { outcome first_fault.old (meaning.variable_as (checker_of checker.now) at (initializer_tree initializer) declared)
-            ≡ ((result.0, meaning.action_tree result.1), first_fault.new) };
+        ensures typed { outcome checker.old.first_fault (meaning.variable_as (checker_of checker.old) at (initializer_tree initializer) declared)
+            ≡ ((result.0, meaning.action_tree result.1), checker.new.first_fault) }
+        ensures kept { checker_of checker.new ≡ checker_of checker.old };
 
     /// An assignment to what a name is.
     fn assignment(
@@ -95,23 +93,23 @@ pub(crate) trait BlockKind {
 
     /// A value that is printed.
     fn print(
-        checker: &Checker,
+        checker: &mut Checker,
         at: usize,
         value: &Expression,
-        first_fault: &mut Option<Fault>,
     ) -> Result<Self::Action, AllocError>
-        ensures { ReportsFaults (λ a. (meaning.action_tree a, checker_of checker.now)) first_fault.old first_fault.new result
-            (meaning.action_typed (checker_of checker.now) (Print at value.now)) };
+        ensures typed { ReportsFaults (λ a. (meaning.action_tree a, checker_of checker.new)) checker.old.first_fault checker.new.first_fault result
+            (meaning.action_typed (checker_of checker.old) (Print at value.now)) }
+        ensures kept { checker.new.scope ≡ checker.old.scope };
 
     /// An assignment to an entry of a vector.
     fn set_entry(
-        checker: &Checker,
+        checker: &mut Checker,
         written: WrittenEntry<'_>,
         value: &Expression,
-        first_fault: &mut Option<Fault>,
     ) -> Result<Self::Action, AllocError>
-        ensures { ReportsFaults (λ a. (meaning.action_tree a, checker_of checker.now)) first_fault.old first_fault.new result
-            (meaning.action_typed (checker_of checker.now) (SetEntry written.entry.vector.now written.entry.index.now value.now)) };
+        ensures typed { ReportsFaults (λ a. (meaning.action_tree a, checker_of checker.new)) checker.old.first_fault checker.new.first_fault result
+            (meaning.action_typed (checker_of checker.old) (SetEntry written.entry.vector.now written.entry.index.now value.now)) }
+        ensures kept { checker.new.scope ≡ checker.old.scope };
 
     /// A reduction of an entry of a vector.
     fn reduce_entry(
@@ -119,32 +117,26 @@ pub(crate) trait BlockKind {
         written: WrittenEntry<'_>,
         by: Reduction,
         value: &Expression,
-        first_fault: &mut Option<Fault>,
     ) -> Result<Self::Action, AllocError>
-        ensures typed { ReportsFaults (λ a. (meaning.action_tree a, checker_of checker.new)) first_fault.old first_fault.new result
+        ensures typed { ReportsFaults (λ a. (meaning.action_tree a, checker_of checker.new)) checker.old.first_fault checker.new.first_fault result
             (meaning.action_typed (checker_of checker.old) (ReduceEntry written.entry.vector.now written.entry.index.now by value.now)) }
         ensures kept { checker.new.scope ≡ checker.old.scope };
 
     /// A vertex that is added to a set.
     fn add_vertex(
-        checker: &Checker,
+        checker: &mut Checker,
         set: &Name,
         vertex: &Expression,
-        first_fault: &mut Option<Fault>,
     ) -> Result<Self::Action, AllocError>
-        ensures { ReportsFaults (λ a. (meaning.action_tree a, checker_of checker.now)) first_fault.old first_fault.new result
-            (meaning.action_typed (checker_of checker.now) (AddVertex set.now vertex.now)) };
+        ensures typed { ReportsFaults (λ a. (meaning.action_tree a, checker_of checker.new)) checker.old.first_fault checker.new.first_fault result
+            (meaning.action_typed (checker_of checker.old) (AddVertex set.now vertex.now)) }
+        ensures kept { checker.new.scope ≡ checker.old.scope };
 
     /// An apply of a function.
-    fn apply(
-        checker: &Checker,
-        target: &Name,
-        ends: &Ends,
-        function: &Name,
-        first_fault: &mut Option<Fault>,
-    ) -> Self::Action
-        ensures { outcome first_fault.old (meaning.action_typed (checker_of checker.now) (Apply target.now (ends_tree ends.now) function.now))
-            ≡ ((meaning.action_tree result, checker_of checker.now), first_fault.new) };
+    fn apply(checker: &mut Checker, target: &Name, ends: &Ends, function: &Name) -> Self::Action
+        ensures typed { outcome checker.old.first_fault (meaning.action_typed (checker_of checker.old) (Apply target.now (ends_tree ends.now) function.now))
+            ≡ ((meaning.action_tree result, checker_of checker.new), checker.new.first_fault) }
+        ensures kept { checker.new.scope ≡ checker.old.scope };
 
     /// The walk over blocks may take for granted what it does.
     ghost walked: { IsWalked meaning };

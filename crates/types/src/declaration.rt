@@ -1,5 +1,5 @@
 //! Typing of declarations: constants and functions.
-ghost use Rattle.std.specs.Prelude.{◌≡◌, [], ◌∷◌, OnOk, Some, false, if◌then◌else◌, map, option_map, pos};
+ghost use Rattle.std.specs.Prelude.{◌≡◌, OnOk, Some, false, if◌then◌else◌, map, option_map, pos};
 ghost use Rattle.syntax.specs.SourceViews.{block_tree as source_block, declaration_tree, initial_tree, parameter_tree};
 ghost use Rattle.typed_tree.specs.BlockTree.{block_tree};
 ghost use Rattle.typed_tree.specs.ProgramTree.{call_tree, program_tree};
@@ -7,23 +7,20 @@ ghost use Rattle.types.specs.Program.{program_tree_of};
 ghost use Rattle.typed_tree.specs.FunctionStatementTree.{function_tree, function_statements_tree};
 ghost use Rattle.expression_types.specs.ScopeTree.{KeepsNames};
 ghost use Rattle.expression_types.specs.Faults.{earlier, ReportsFaults, outcome};
-ghost use Rattle.types.specs.Initial.{ErrorInitializer, is_sound};
-ghost use Rattle.types.specs.inside.Checker.{checker_of};
+ghost use Rattle.initializer_types.specs.Initial.{ErrorInitializer, is_sound};
+ghost use Rattle.initializer_types.specs.Views.{checker_of, initializer_tree, function_kind_tree};
 ghost use Rattle.types.specs.Declaration.{declaration_typed, declarations_typed, declare_bool, declare_constant, declare_constant_as, declare_edges, declare_int, declare_name, declare_set, declare_vector, edge_function_declared, function_declared, has_all, begins, inside_of, literal_or_fault, kind_fits, loads, main_declared, opened, only_edges, parameter, parameters_declared, result_declared, result_entity, steps_declared, takes_weight as weight_taken, with_main_block};
 ghost use Rattle.types.specs.inside.Declaration.{declared_of};
-ghost use Rattle.types.specs.inside.Initializer.{initializer_tree};
-ghost use Rattle.types.specs.inside.FunctionKind.{function_kind_tree};
-ghost use Rattle.types.specs.Literal.{literal_condition, literal_integer};
+ghost use Rattle.initializer_types.specs.DeclarationForms.{literal_condition, literal_integer};
 
 use crate::block::statements;
-use crate::checker::{Checker, declare};
 use crate::function::FunctionBlock;
-use crate::function_kind::{is_int, is_vertex, kind_of};
-use crate::initial::{Initializer, read_initial};
-use crate::literal::{condition_literal, integer_literal};
-use crate::reductions::Reductions;
 use crate::statement::MainBlock;
 use expression_types::{Entity, Fault, Inside, TypeRule, note};
+use initializer_types::{
+    Checker, FunctionKind, Initializer, Reductions, condition_literal, declare, integer_literal,
+    is_int, is_vertex, kind_of, read_initial,
+};
 use std::alloc::AllocError;
 use syntax::{Declaration, DeclaredType, Initial, Name, Parameter, Statement};
 use typed_tree::{
@@ -89,19 +86,6 @@ impl Declared {
     }
 }
 
-/// What a function is, by its name, its parameters and its result.
-#[derive(Clone, Copy)]
-pub(crate) enum FunctionKind {
-    /// The function that is run, and whether it has neither parameters nor a result.
-    Main(bool),
-    /// An edge function, and whether its third parameter is the edge's weight.
-    Edge(bool),
-    Vertex,
-    Filter,
-    /// None of these.
-    Other,
-}
-
 /// The parts of a constant's declaration. `at` is the offset of its first token.
 #[derive(Clone, Copy)]
 struct WrittenConstant<'a> {
@@ -124,23 +108,18 @@ struct WrittenFunction<'a> {
 pub(crate) fn declare_all(
     declarations: &[Declaration],
     declared: &mut Declared,
-    first_fault: &mut Option<Fault>,
 ) -> Result<(), AllocError>
-    ensures { ReportsFaults (λ _. declared_of declared.new) first_fault.old first_fault.new result
+    ensures { ReportsFaults (λ _. declared_of declared.new) declared.old.checker.first_fault declared.new.checker.first_fault result
         (declarations_typed (declared_of declared.old) (map declaration_tree declarations.now)) }
 {
     'declarations: for declaration in declarations {
-        declare_one(declaration, declared, first_fault)?;
+        declare_one(declaration, declared)?;
     }
     Ok(())
 }
 
-fn declare_one(
-    declaration: &Declaration,
-    declared: &mut Declared,
-    first_fault: &mut Option<Fault>,
-) -> Result<(), AllocError>
-    ensures { ReportsFaults (λ _. declared_of declared.new) first_fault.old first_fault.new result
+fn declare_one(declaration: &Declaration, declared: &mut Declared) -> Result<(), AllocError>
+    ensures { ReportsFaults (λ _. declared_of declared.new) declared.old.checker.first_fault declared.new.checker.first_fault result
         (declaration_typed (declared_of declared.old) (declaration_tree declaration.now)) }
 {
     match declaration {
@@ -154,7 +133,7 @@ fn declare_one(
                 constant,
                 initial,
             };
-            constant_of(written, declared, first_fault)
+            constant_of(written, declared)
         }
         Declaration::Function {
             at,
@@ -171,58 +150,52 @@ fn declare_one(
                 body,
             };
             match kind_of(name.bytes(), parameters, gives) {
-                FunctionKind::Main(fits) => { main_function(fits, written, declared, first_fault) }
-                other => function(other, written, declared, first_fault),
+                FunctionKind::Main(fits) => { main_function(fits, written, declared) }
+                other => function(other, written, declared),
             }
         }
     }
 }
 
 /// Makes a name visible, and puts it into the table of names.
-fn name_is(
-    name: &Name,
-    entity: Entity,
-    declared: &mut Declared,
-    first_fault: &mut Option<Fault>,
-) -> Result<(), AllocError>
-    ensures { ReportsFaults (λ _. declared_of declared.new) first_fault.old first_fault.new result (declare_name (declared_of declared.old) name.now entity) }
+fn name_is(name: &Name, entity: Entity, declared: &mut Declared) -> Result<(), AllocError>
+    ensures { ReportsFaults (λ _. declared_of declared.new) declared.old.checker.first_fault declared.new.checker.first_fault result (declare_name (declared_of declared.old) name.now entity) }
 {
-    declare(&mut declared.checker, name, entity, first_fault)
+    declare(&mut declared.checker, name, entity)
 }
 
-fn constant_of(
-    written: WrittenConstant<'_>,
-    declared: &mut Declared,
-    first_fault: &mut Option<Fault>,
-) -> Result<(), AllocError>
-    ensures { ReportsFaults (λ _. declared_of declared.new) first_fault.old first_fault.new result
+fn constant_of(written: WrittenConstant<'_>, declared: &mut Declared) -> Result<(), AllocError>
+    ensures { ReportsFaults (λ _. declared_of declared.new) declared.old.checker.first_fault declared.new.checker.first_fault result
         (declare_constant (declared_of declared.old) written.entry.at (parameter_tree written.entry.constant.now) (initial_tree written.entry.initial.now)) }
 {
-    let initializer = read_initial(&declared.checker, written.at, written.initial, first_fault)?;
-    constant_from(written, initializer, declared, first_fault)
+    let initializer = read_initial(&mut declared.checker, written.at, written.initial)?;
+    constant_from(written, initializer, declared)
 }
 
 fn constant_from(
     written: WrittenConstant<'_>,
     initializer: Initializer,
     declared: &mut Declared,
-    first_fault: &mut Option<Fault>,
 ) -> Result<(), AllocError>
-    ensures { ReportsFaults (λ _. declared_of declared.new) first_fault.old first_fault.new result
+    ensures { ReportsFaults (λ _. declared_of declared.new) declared.old.checker.first_fault declared.new.checker.first_fault result
         (declare_constant_as (declared_of declared.old) written.entry.at written.entry.constant.now.name (initial_tree written.entry.initial.now)
         written.entry.constant.now.declared (initializer_tree initializer)) }
 {
     match written.constant.declared {
-        DeclaredType::Int => integer(written, initializer, declared, first_fault),
-        DeclaredType::Bool => condition(written, initializer, declared, first_fault),
+        DeclaredType::Int => integer(written, initializer, declared),
+        DeclaredType::Bool => condition(written, initializer, declared),
         DeclaredType::Vertex => {
-            note(first_fault, written.at, TypeRule::WrongType);
-            name_is(&written.constant.name, Entity::Error, declared, first_fault)
+            note(
+                &mut declared.checker.first_fault,
+                written.at,
+                TypeRule::WrongType,
+            );
+            name_is(&written.constant.name, Entity::Error, declared)
         }
-        DeclaredType::VertexSet => set(written, initializer, declared, first_fault),
-        DeclaredType::Vector => vector(written, initializer, declared, first_fault),
-        DeclaredType::EdgeSet => edges(written, false, initializer, declared, first_fault),
-        DeclaredType::WeightedEdgeSet => edges(written, true, initializer, declared, first_fault),
+        DeclaredType::VertexSet => set(written, initializer, declared),
+        DeclaredType::Vector => vector(written, initializer, declared),
+        DeclaredType::EdgeSet => edges(written, false, initializer, declared),
+        DeclaredType::WeightedEdgeSet => edges(written, true, initializer, declared),
     }
 }
 
@@ -240,19 +213,22 @@ fn integer(
     written: WrittenConstant<'_>,
     initializer: Initializer,
     declared: &mut Declared,
-    first_fault: &mut Option<Fault>,
 ) -> Result<(), AllocError>
-    ensures { ReportsFaults (λ _. declared_of declared.new) first_fault.old first_fault.new result
+    ensures { ReportsFaults (λ _. declared_of declared.new) declared.old.checker.first_fault declared.new.checker.first_fault result
         (declare_int (declared_of declared.old) written.entry.at written.entry.constant.now.name (initializer_tree initializer)
         (initial_tree written.entry.initial.now)) }
 {
-    let value = literal(written.at, initializer, written.initial, first_fault);
+    let value = literal(
+        written.at,
+        initializer,
+        written.initial,
+        &mut declared.checker.first_fault,
+    );
     let index = declared.checker.names.len();
     name_is(
         &written.constant.name,
         Entity::IntConstant(index, value),
         declared,
-        first_fault,
     )
 }
 
@@ -279,19 +255,22 @@ fn condition(
     written: WrittenConstant<'_>,
     initializer: Initializer,
     declared: &mut Declared,
-    first_fault: &mut Option<Fault>,
 ) -> Result<(), AllocError>
-    ensures { ReportsFaults (λ _. declared_of declared.new) first_fault.old first_fault.new result
+    ensures { ReportsFaults (λ _. declared_of declared.new) declared.old.checker.first_fault declared.new.checker.first_fault result
         (declare_bool (declared_of declared.old) written.entry.at written.entry.constant.now.name (initializer_tree initializer)
         (initial_tree written.entry.initial.now)) }
 {
-    let value = truth_literal(written.at, initializer, written.initial, first_fault);
+    let value = truth_literal(
+        written.at,
+        initializer,
+        written.initial,
+        &mut declared.checker.first_fault,
+    );
     let index = declared.checker.names.len();
     name_is(
         &written.constant.name,
         Entity::BoolConstant(index, value),
         declared,
-        first_fault,
     )
 }
 
@@ -318,22 +297,16 @@ fn set(
     written: WrittenConstant<'_>,
     initializer: Initializer,
     declared: &mut Declared,
-    first_fault: &mut Option<Fault>,
 ) -> Result<(), AllocError>
-    ensures { ReportsFaults (λ _. declared_of declared.new) first_fault.old first_fault.new result
+    ensures { ReportsFaults (λ _. declared_of declared.new) declared.old.checker.first_fault declared.new.checker.first_fault result
         (declare_set (declared_of declared.old) written.entry.at written.entry.constant.now.name (initializer_tree initializer)) }
 {
-    want_all(written.at, initializer, first_fault);
+    want_all(written.at, initializer, &mut declared.checker.first_fault);
     let slot = VarRef {
         index: declared.sets.len(),
         name: declared.checker.names.len(),
     };
-    name_is(
-        &written.constant.name,
-        Entity::ConstantSet(slot),
-        declared,
-        first_fault,
-    )?;
+    name_is(&written.constant.name, Entity::ConstantSet(slot), declared)?;
     declared.sets.push(slot.name)?;
     Ok(())
 }
@@ -351,16 +324,20 @@ fn vector(
     written: WrittenConstant<'_>,
     initializer: Initializer,
     declared: &mut Declared,
-    first_fault: &mut Option<Fault>,
 ) -> Result<(), AllocError>
-    ensures { ReportsFaults (λ _. declared_of declared.new) first_fault.old first_fault.new result
+    ensures { ReportsFaults (λ _. declared_of declared.new) declared.old.checker.first_fault declared.new.checker.first_fault result
         (declare_vector (declared_of declared.old) written.entry.at written.entry.constant.now.name (initializer_tree initializer)
         (initial_tree written.entry.initial.now)) }
 {
-    let beginning = beginning_of(written.at, initializer, written.initial, first_fault);
+    let beginning = beginning_of(
+        written.at,
+        initializer,
+        written.initial,
+        &mut declared.checker.first_fault,
+    );
     let index = declared.checker.names.len();
     let entity = Entity::Vector(declared.vectors.len());
-    name_is(&written.constant.name, entity, declared, first_fault)?;
+    name_is(&written.constant.name, entity, declared)?;
     declared.vectors.push(Vector {
         name: index,
         beginning,
@@ -388,16 +365,20 @@ fn edges(
     weights: bool,
     initializer: Initializer,
     declared: &mut Declared,
-    first_fault: &mut Option<Fault>,
 ) -> Result<(), AllocError>
-    ensures { ReportsFaults (λ _. declared_of declared.new) first_fault.old first_fault.new result
+    ensures { ReportsFaults (λ _. declared_of declared.new) declared.old.checker.first_fault declared.new.checker.first_fault result
         (declare_edges weights (declared_of declared.old) written.entry.at written.entry.constant.now.name (initializer_tree initializer)) }
 {
-    want_loaded(written.at, initializer, first_fault);
+    want_loaded(written.at, initializer, &mut declared.checker.first_fault);
     let index = declared.checker.names.len();
     let name = &written.constant.name;
-    let first = only(name, index, declared.edges, first_fault);
-    name_is(name, Entity::Edges(weights), declared, first_fault)?;
+    let first = only(
+        name,
+        index,
+        declared.edges,
+        &mut declared.checker.first_fault,
+    );
+    name_is(name, Entity::Edges(weights), declared)?;
     declared.edges = first;
     Ok(())
 }
@@ -447,16 +428,15 @@ fn open(
     parameters: &[Parameter],
     gives: &Option<Parameter>,
     checker: &mut Checker,
-    first_fault: &mut Option<Fault>,
 ) -> Result<(), AllocError>
-    ensures opened { ReportsFaults (λ _. checker_of checker.new) first_fault.old first_fault.new result
+    ensures opened { ReportsFaults (λ _. checker_of checker.new) checker.old.first_fault checker.new.first_fault result
         (opened (checker_of checker.old) (function_kind_tree kind) (map parameter_tree parameters.now) (option_map parameter_tree gives.now)) }
     ensures kept { OnOk result (KeepsNames checker.old.scope checker.new.scope) }
 {
     checker.scope.enter(inside(kind));
     checker.writes = Reductions::new(checker.alloc);
-    declare_parameters(takes_weight(kind), parameters, checker, first_fault)?;
-    declare_result(kind, gives, checker, first_fault)
+    declare_parameters(takes_weight(kind), parameters, checker)?;
+    declare_result(kind, gives, checker)
 }
 
 /// Whether it is an edge function whose third parameter is the edge's weight.
@@ -474,16 +454,15 @@ fn declare_parameters(
     weighted: bool,
     parameters: &[Parameter],
     checker: &mut Checker,
-    first_fault: &mut Option<Fault>,
 ) -> Result<(), AllocError>
-    ensures declared { ReportsFaults (λ _. checker_of checker.new) first_fault.old first_fault.new result
+    ensures declared { ReportsFaults (λ _. checker_of checker.new) checker.old.first_fault checker.new.first_fault result
         (parameters_declared weighted (checker_of checker.old) Endpoint.Source (map parameter_tree parameters.now)) }
     ensures kept { OnOk result (KeepsNames checker.old.scope checker.new.scope) }
 {
     let mut endpoint = Endpoint::Source;
     'parameters: for parameter in parameters {
         let entity = parameter_entity(weighted, endpoint, parameter.declared);
-        declare(checker, &parameter.name, entity, first_fault)?;
+        declare(checker, &parameter.name, entity)?;
         endpoint = Endpoint::Destination;
     }
     Ok(())
@@ -505,9 +484,8 @@ fn declare_result(
     kind: FunctionKind,
     gives: &Option<Parameter>,
     checker: &mut Checker,
-    first_fault: &mut Option<Fault>,
 ) -> Result<(), AllocError>
-    ensures declared { ReportsFaults (λ _. checker_of checker.new) first_fault.old first_fault.new result
+    ensures declared { ReportsFaults (λ _. checker_of checker.new) checker.old.first_fault checker.new.first_fault result
         (result_declared (checker_of checker.old) (function_kind_tree kind) (option_map parameter_tree gives.now)) }
     ensures kept { OnOk result (KeepsNames checker.old.scope checker.new.scope) }
 {
@@ -515,7 +493,7 @@ fn declare_result(
         None => Ok(()),
         Some(gives) => {
             let entity = entity_of_result(checker, kind);
-            declare(checker, &gives.name, entity, first_fault)
+            declare(checker, &gives.name, entity)
         }
     }
 }
@@ -537,9 +515,8 @@ fn main_function(
     fits: bool,
     written: WrittenFunction<'_>,
     declared: &mut Declared,
-    first_fault: &mut Option<Fault>,
 ) -> Result<(), AllocError>
-    ensures { ReportsFaults (λ _. declared_of declared.new) first_fault.old first_fault.new result
+    ensures { ReportsFaults (λ _. declared_of declared.new) declared.old.checker.first_fault declared.new.checker.first_fault result
         (main_declared (declared_of declared.old) fits written.entry.name.now (map parameter_tree written.entry.parameters.now)
         (option_map parameter_tree written.entry.gives.now) (source_block written.entry.body.now)) }
 {
@@ -551,18 +528,18 @@ fn main_function(
         written.parameters,
         written.gives,
         checker,
-        first_fault,
     )?;
-    let body = statements::<MainBlock>(written.body, checker, first_fault)?;
+    let body = statements::<MainBlock>(written.body, checker)?;
     checker.scope.leave(mark);
-    name_is(written.name, Entity::Main, declared, first_fault)?;
+    name_is(written.name, Entity::Main, declared)?;
     keep_main(fits, body, declared);
     Ok(())
 }
 
 /// Keeps the statements of the function that is run, where it has neither parameters nor a result.
 fn keep_main(fits: bool, body: Vec<MainStatement>, declared: &mut Declared)
-    ensures { declared_of declared.new ≡ with_main_block (declared_of declared.old) fits (block_tree body.items) }
+    ensures main { declared_of declared.new ≡ with_main_block (declared_of declared.old) fits (block_tree body.items) }
+    ensures first_fault { declared.new.checker.first_fault ≡ declared.old.checker.first_fault }
 {
     if fits {
         declared.main = Some(body);
@@ -574,25 +551,18 @@ fn function(
     kind: FunctionKind,
     written: WrittenFunction<'_>,
     declared: &mut Declared,
-    first_fault: &mut Option<Fault>,
 ) -> Result<(), AllocError>
-    ensures { ReportsFaults (λ _. declared_of declared.new) first_fault.old first_fault.new result
+    ensures { ReportsFaults (λ _. declared_of declared.new) declared.old.checker.first_fault declared.new.checker.first_fault result
         (steps_declared (declared_of declared.old) written.entry.at (function_kind_tree kind) written.entry.name.now
         (map parameter_tree written.entry.parameters.now) (option_map parameter_tree written.entry.gives.now) (source_block written.entry.body.now)) }
 {
-    want_kind(written.at, kind, first_fault);
+    want_kind(written.at, kind, &mut declared.checker.first_fault);
     let checker = &mut declared.checker;
     let mark = checker.scope.mark();
-    open(
-        kind,
-        written.parameters,
-        written.gives,
-        checker,
-        first_fault,
-    )?;
-    let steps = statements::<FunctionBlock>(written.body, checker, first_fault)?;
+    open(kind, written.parameters, written.gives, checker)?;
+    let steps = statements::<FunctionBlock>(written.body, checker)?;
     checker.scope.leave(mark);
-    function_is(kind, written.name, steps, declared, first_fault)
+    function_is(kind, written.name, steps, declared)
 }
 
 /// Notes the fault where a function is of no kind.
@@ -614,9 +584,8 @@ fn function_is(
     name: &Name,
     steps: Vec<FunctionStatement>,
     declared: &mut Declared,
-    first_fault: &mut Option<Fault>,
 ) -> Result<(), AllocError>
-    ensures { ReportsFaults (λ _. declared_of declared.new) first_fault.old first_fault.new result
+    ensures { ReportsFaults (λ _. declared_of declared.new) declared.old.checker.first_fault declared.new.checker.first_fault result
         (function_declared (declared_of declared.old) (function_kind_tree kind) name.now (function_statements_tree steps.items)) }
 {
     let function = Function {
@@ -624,31 +593,20 @@ fn function_is(
         steps,
     };
     match kind {
-        FunctionKind::Edge(weighted) => edge_function(
-            name,
-            weighted,
-            function,
-            declared,
-            first_fault,
-        ),
+        FunctionKind::Edge(weighted) => edge_function(name, weighted, function, declared),
         FunctionKind::Vertex => {
             let entity = Entity::VertexFunction(declared.vertex_functions.len());
-            name_is(name, entity, declared, first_fault)?;
+            name_is(name, entity, declared)?;
             declared.vertex_functions.push(function)?;
             Ok(())
         }
         FunctionKind::Filter => {
             let entity = Entity::Filter(declared.filters.len());
-            name_is(name, entity, declared, first_fault)?;
+            name_is(name, entity, declared)?;
             declared.filters.push(function)?;
             Ok(())
         }
-        FunctionKind::Main(_) | FunctionKind::Other => name_is(
-            name,
-            Entity::Error,
-            declared,
-            first_fault,
-        ),
+        FunctionKind::Main(_) | FunctionKind::Other => name_is(name, Entity::Error, declared),
     }
 }
 
@@ -658,13 +616,12 @@ fn edge_function(
     weighted: bool,
     function: Function,
     declared: &mut Declared,
-    first_fault: &mut Option<Fault>,
 ) -> Result<(), AllocError>
-    ensures { ReportsFaults (λ _. declared_of declared.new) first_fault.old first_fault.new result
+    ensures { ReportsFaults (λ _. declared_of declared.new) declared.old.checker.first_fault declared.new.checker.first_fault result
         (edge_function_declared weighted (declared_of declared.old) name.now (function_tree function)) }
 {
     let entity = Entity::EdgeFunction(declared.edge_functions.len(), weighted);
-    name_is(name, entity, declared, first_fault)?;
+    name_is(name, entity, declared)?;
     declared.edge_functions.push(function)?;
     let writes = std::mem::replace(
         &mut declared.checker.writes,

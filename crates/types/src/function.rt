@@ -9,14 +9,12 @@ ghost use Rattle.types.specs.inside.Step.{function_compound};
 ghost use Rattle.types.specs.Step.{entry_step, may_reduce, may_set, no_step, one_reduction, own_vertex, reduction_step, same_endpoint, same_reduction, written_at};
 
 use crate::block_kind::{BlockKind, Compound};
-use crate::checker::Checker;
-use crate::entry::WrittenEntry;
-use crate::initial::{Initializer, read_apply};
-use crate::reductions::Reductions;
-use crate::wanted::{integer, integer_of};
 use apply_options::Reduction;
 use expression_types::{
     Entity, Fault, Inside, TypeRule, Value, entity, note, type_expression, type_index, vector,
+};
+use initializer_types::{
+    Checker, Initializer, Reductions, WrittenEntry, integer, integer_of, read_apply,
 };
 use std::alloc::{AllocError, Global};
 use syntax::{DeclaredType, Ends, Expression, Name};
@@ -68,15 +66,14 @@ impl BlockKind for FunctionBlock {
     }
 
     fn variable(
-        checker: &Checker,
+        checker: &mut Checker,
         at: usize,
         declared: DeclaredType,
         initializer: Initializer,
-        first_fault: &mut Option<Fault>,
     ) -> (Entity, FunctionStatement) {
         match declared {
             DeclaredType::Int => {
-                let value = initializer.into_integer(at, first_fault);
+                let value = initializer.into_integer(at, &mut checker.first_fault);
                 let slot = checker.integer_slot();
                 let statement = VariableStatement::DeclareInt(slot.name, value);
                 (
@@ -85,7 +82,7 @@ impl BlockKind for FunctionBlock {
                 )
             }
             DeclaredType::Bool => {
-                let value = initializer.into_condition(at, first_fault);
+                let value = initializer.into_condition(at, &mut checker.first_fault);
                 let slot = checker.condition_slot();
                 let statement = VariableStatement::DeclareBool(slot.name, value);
                 (
@@ -99,7 +96,7 @@ impl BlockKind for FunctionBlock {
             | DeclaredType::EdgeSet
             | DeclaredType::WeightedEdgeSet => (
                 Entity::Error,
-                wrong(at, checker.alloc, first_fault),
+                wrong(at, checker.alloc, &mut checker.first_fault),
             ),
         }
     }
@@ -144,28 +141,38 @@ impl BlockKind for FunctionBlock {
     }
 
     fn print(
-        checker: &Checker,
+        checker: &mut Checker,
         at: usize,
         _value: &Expression,
-        first_fault: &mut Option<Fault>,
     ) -> Result<FunctionStatement, AllocError> {
-        note(first_fault, at, TypeRule::PrintOutsideMain);
+        note(&mut checker.first_fault, at, TypeRule::PrintOutsideMain);
         Ok(nothing(checker.alloc))
     }
 
     fn set_entry(
-        checker: &Checker,
+        checker: &mut Checker,
         written: WrittenEntry<'_>,
         value: &Expression,
-        first_fault: &mut Option<Fault>,
     ) -> Result<FunctionStatement, AllocError> {
         let at = written.vector.at();
-        let scope = &checker.scope;
-        let may = may_set_entry(at, scope.inside(), first_fault);
-        let vector = vector(scope, at, written.vector, first_fault);
-        let index = type_index(checker.alloc, scope, at, written.index, first_fault)?;
-        let own = is_own(at, vertex_of(scope.inside()), index, first_fault);
-        let value = integer(checker.alloc, scope, at, value, first_fault)?;
+        let may = may_set_entry(at, checker.scope.inside(), &mut checker.first_fault);
+        let vector = vector(&checker.scope, at, written.vector, &mut checker.first_fault);
+        let index = type_index(
+            checker.alloc,
+            &checker.scope,
+            at,
+            written.index,
+            &mut checker.first_fault,
+        )?;
+        let own_vertex = vertex_of(checker.scope.inside());
+        let own = is_own(at, own_vertex, index, &mut checker.first_fault);
+        let value = integer(
+            checker.alloc,
+            &checker.scope,
+            at,
+            value,
+            &mut checker.first_fault,
+        )?;
         Ok(setting(checker.alloc, may, own, vector, value))
     }
 
@@ -174,46 +181,68 @@ impl BlockKind for FunctionBlock {
         written: WrittenEntry<'_>,
         by: Reduction,
         value: &Expression,
-        first_fault: &mut Option<Fault>,
     ) -> Result<FunctionStatement, AllocError> {
         let at = written.vector.at();
-        let vector = vector(&checker.scope, at, written.vector, first_fault);
+        let vector = vector(&checker.scope, at, written.vector, &mut checker.first_fault);
         let inside = checker.scope.inside();
-        let may = may_reduce_entry(at, inside, vector, by, &mut checker.writes, first_fault)?;
+        let may = may_reduce_entry(
+            at,
+            inside,
+            vector,
+            by,
+            &mut checker.writes,
+            &mut checker.first_fault,
+        )?;
         let index = type_index(
             checker.alloc,
             &checker.scope,
             at,
             written.index,
-            first_fault,
+            &mut checker.first_fault,
         )?;
-        let own = is_own(at, vertex_of(inside), index, first_fault);
-        let value = integer(checker.alloc, &checker.scope, at, value, first_fault)?;
+        let own = is_own(at, vertex_of(inside), index, &mut checker.first_fault);
+        let value = integer(
+            checker.alloc,
+            &checker.scope,
+            at,
+            value,
+            &mut checker.first_fault,
+        )?;
         Ok(reducing(checker.alloc, may, own, vector, by, value))
     }
 
     fn add_vertex(
-        checker: &Checker,
+        checker: &mut Checker,
         set: &Name,
         vertex: &Expression,
-        first_fault: &mut Option<Fault>,
     ) -> Result<FunctionStatement, AllocError> {
         let at = set.at();
-        let step = wrong(at, checker.alloc, first_fault);
-        let _set = entity(&checker.scope, set, first_fault);
-        let _vertex = type_expression(checker.alloc, &checker.scope, at, vertex, first_fault)?;
+        let step = wrong(at, checker.alloc, &mut checker.first_fault);
+        let _set = entity(&checker.scope, set, &mut checker.first_fault);
+        let _vertex = type_expression(
+            checker.alloc,
+            &checker.scope,
+            at,
+            vertex,
+            &mut checker.first_fault,
+        )?;
         Ok(step)
     }
 
     fn apply(
-        checker: &Checker,
+        checker: &mut Checker,
         target: &Name,
         ends: &Ends,
         function: &Name,
-        first_fault: &mut Option<Fault>,
     ) -> FunctionStatement {
-        let step = wrong(target.at(), checker.alloc, first_fault);
-        let _apply = read_apply(&checker.scope, target, ends, function, first_fault);
+        let step = wrong(target.at(), checker.alloc, &mut checker.first_fault);
+        let _apply = read_apply(
+            &checker.scope,
+            target,
+            ends,
+            function,
+            &mut checker.first_fault,
+        );
         step
     }
 

@@ -12,27 +12,20 @@
 //! (`faults_stand_in_the_source`), and edge functions write by one reduction for each vector
 //! (`edge_functions_only_reduce`).
 //!
-//! One file has one kind of things: declarations, blocks, in what blocks of `main` and of functions differ, statements
-//! of `main`, statements of functions, initial values, literals, schedules.
+//! The state of the checker, the types of initializers and the forms of declarations are in `initializer_types`, on
+//! which this crate depends. One file has one kind of things: declarations, blocks, in what blocks of `main` and of
+//! functions differ, statements of `main`, statements of functions, schedules.
 #![tactic(auto)]
 
 mod block;
 mod block_kind;
-mod checker;
 mod declaration;
-mod entry;
 mod error;
 mod function;
-mod function_kind;
-mod initial;
 mod laws;
-mod literal;
 mod program;
-mod quoted_names;
-mod reductions;
 mod schedule;
 mod statement;
-mod wanted;
 
 pub use error::CheckError;
 pub use laws::{edge_functions_only_reduce, faults_stand_in_the_source};

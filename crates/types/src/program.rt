@@ -1,19 +1,18 @@
 //! The checker: from a whole source to its program, or its least fault.
-ghost use Rattle.std.specs.Prelude.{◌≡◌, ◌+◌, ◌≤◌, ◌^◌, List, ◌∷◌, None, map};
+ghost use Rattle.std.specs.Prelude.{◌≡◌, ◌+◌, ◌≤◌, ◌^◌, List, ◌∷◌, IfOk, None, map};
 ghost use Rattle.syntax.specs.SourceTrees.{DeclarationTree};
 ghost use Rattle.syntax.specs.SourceViews.{declaration_tree, source_tree};
 ghost use Rattle.typed_tree.specs.BlockTree.{block_tree};
 ghost use Rattle.typed_tree.specs.ProgramTree.{program_tree};
-ghost use Rattle.expression_types.specs.Faults.{ReportsFaults, outcome};
+ghost use Rattle.expression_types.specs.Faults.{outcome};
 ghost use Rattle.types.specs.inside.Declaration.{declared_of};
 ghost use Rattle.types.specs.Program.{Answers, main_of, no_declarations, program_of, set_count};
 
-use crate::checker::Checker;
 use crate::declaration::{Declared, declare_all};
 use crate::error::CheckError;
-use crate::reductions::Reductions;
 use crate::schedule::calls;
 use expression_types::{Fault, Names, Scope, TypeRule, note};
+use initializer_types::{Checker, Reductions};
 use std::alloc::{AllocError, Global};
 use syntax::{Declaration, DeclaredType, Source};
 use typed_tree::{MainStatement, Typed};
@@ -26,42 +25,35 @@ use typed_tree::{MainStatement, Typed};
 pub fn check(alloc: Global, source: &Source) -> Result<Typed, CheckError>
     ensures { Answers (source_tree source.now) source.now.length result }
 {
-    let mut first_fault = None;
-    let program = type_source(alloc, source, &mut first_fault)?;
+    let (program, first_fault) = type_source(alloc, source)?;
     match first_fault {
         Some(fault) => Err(CheckError::Faulty(fault)),
         None => Ok(program),
     }
 }
 
-/// The program that a source is. Its faults are noted.
-fn type_source(
-    alloc: Global,
-    source: &Source,
-    first_fault: &mut Option<Fault>,
-) -> Result<Typed, AllocError>
-    ensures { ReportsFaults program_tree first_fault.old first_fault.new result (program_of (source_tree source.now) source.now.length) }
+/// The program that a source is, and of its faults the least, if there is one.
+fn type_source(alloc: Global, source: &Source) -> Result<(Typed, Option<Fault>), AllocError>
+    ensures { IfOk result (λ p. outcome None (program_of (source_tree source.now) source.now.length) ≡ (program_tree p.0, p.1)) }
 {
     let mut declared = empty(alloc, count_sets(&source.declarations));
-    declare_all(&source.declarations, &mut declared, first_fault)?;
+    declare_all(&source.declarations, &mut declared)?;
     let schedule = calls(alloc, &source.schedule)?;
-    let main = main_in(source.length, &mut declared, first_fault);
-    Ok(declared.into_program(main, schedule))
+    let main = main_in(source.length, &mut declared);
+    let first_fault = declared.checker.first_fault;
+    Ok((declared.into_program(main, schedule), first_fault))
 }
 
 /// The statements of `main`. The fault is noted where there is none.
-fn main_in(
-    length: usize,
-    declared: &mut Declared,
-    first_fault: &mut Option<Fault>,
-) -> Vec<MainStatement>
-    ensures main { outcome first_fault.old (main_of length (declared_of declared.old).main) ≡ (block_tree result.items, first_fault.new) }
+fn main_in(length: usize, declared: &mut Declared) -> Vec<MainStatement>
+    ensures main { outcome declared.old.checker.first_fault (main_of length (declared_of declared.old).main)
+        ≡ (block_tree result.items, declared.new.checker.first_fault) }
     ensures others { declared_of declared.new ≡ record (declared_of declared.old) { main = None } }
 {
     match declared.main.take() {
         Some(main) => main,
         None => {
-            note(first_fault, length, TypeRule::NoMain);
+            note(&mut declared.checker.first_fault, length, TypeRule::NoMain);
             Vec::new(declared.checker.alloc)
         }
     }
@@ -96,7 +88,8 @@ fn sets_of(declaration: &Declaration) -> usize
 /// Before the first declaration of a program with n constant vertex sets.
 fn empty(alloc: Global, sets: usize) -> Declared
     requires { sets ≤ 2 ^ 63 }
-    ensures { declared_of result ≡ no_declarations sets }
+    ensures declared { declared_of result ≡ no_declarations sets }
+    ensures first_fault { result.checker.first_fault ≡ None }
 {
     Declared {
         checker: Checker {
@@ -108,6 +101,7 @@ fn empty(alloc: Global, sets: usize) -> Declared
             statements: Vec::new(alloc),
             writes: Reductions::new(alloc),
             written: Vec::new(alloc),
+            first_fault: None,
         },
         edges: None,
         vectors: Vec::new(alloc),

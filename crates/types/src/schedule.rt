@@ -3,13 +3,12 @@ ghost use Rattle.std.specs.Prelude.{◌≡◌, ◌∷◌, ◌++◌, IfOk, OnOk, 
 ghost use Rattle.syntax.specs.SourceViews.{call_tree as source_call, chain_tree};
 ghost use Rattle.typed_tree.specs.ProgramTree.{call_tree};
 ghost use Rattle.types.specs.Program.{schedule_call, schedule_calls};
-ghost use Rattle.types.specs.Checker.{without_ends};
 ghost use Rattle.std.specs.Option.{option_map};
 
-use crate::quoted_names::between_ends;
+use initializer_types::between_ends;
 use std::alloc::{AllocError, Global};
-use syntax::{Call, Chain, QuotedText};
-use typed_tree::{Name, ScheduleCall};
+use syntax::{Call, Chain};
+use typed_tree::ScheduleCall;
 
 /// The calls of a schedule, in the order of the text.
 pub(crate) fn calls(
@@ -44,20 +43,13 @@ fn call_of(alloc: Global, call: &Call) -> Result<ScheduleCall, AllocError>
     ensures { IfOk result (λ c. call_tree c ≡ schedule_call (source_call call.now)) }
 {
     let mut arguments = Vec::new(alloc);
-    arguments.push(argument(alloc, &call.first)?)?;
+    arguments.push(between_ends(alloc, call.first.bytes())?)?;
     'texts: for text in &call.more {
-        arguments.push(argument(alloc, text)?)?;
+        arguments.push(between_ends(alloc, text.bytes())?)?;
     }
     Ok(ScheduleCall {
         at: call.at,
         setting: call.setting,
         arguments,
     })
-}
-
-/// A text without its quotes.
-fn argument(alloc: Global, text: &QuotedText) -> Result<Name, AllocError>
-    ensures { IfOk result (λ name. name ≡ without_ends text.now.bytes.items) }
-{
-    between_ends(alloc, text.bytes())
 }

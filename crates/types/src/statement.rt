@@ -8,21 +8,19 @@ ghost use Rattle.expression_types.specs.Faults.{earlier, outcome};
 ghost use Rattle.expression_types.specs.ValueTree.{value_tree};
 ghost use Rattle.types.specs.inside.Block.{main_compound};
 ghost use Rattle.types.specs.inside.BlockMeaning.{compound_tree};
-ghost use Rattle.types.specs.inside.Initializer.{apply_end_tree};
-ghost use Rattle.types.specs.Initial.{edge_function, names_error, vertex_function};
+ghost use Rattle.initializer_types.specs.Views.{apply_end_tree};
+ghost use Rattle.initializer_types.specs.Initial.{edge_function, names_error, vertex_function};
 ghost use Rattle.types.specs.Statement.{added_to_set, applied, edges_applied, entry_reduced, entry_set, has_ends as ends_are_written, no_action, printed, vertices_applied};
 
 use crate::block_kind::{BlockKind, Compound};
-use crate::checker::Checker;
-use crate::entry::WrittenEntry;
-use crate::initial::{
-    ApplyEnd, Initializer, NamedApply, are_weights_lacking, edge_function_named, ends_of,
-    is_edges_entity, is_error_entity, is_one_wrong, read_apply, vertex_function_named,
-};
-use crate::wanted::{index_of, integer, integer_of};
 use apply_options::Reduction;
 use expression_types::{
     Entity, Fault, TypeRule, Value, entity, note, set_named, type_expression, vector,
+};
+use initializer_types::{
+    ApplyEnd, Checker, Initializer, NamedApply, WrittenEntry, are_weights_lacking,
+    edge_function_named, ends_of, index_of, integer, integer_of, is_edges_entity, is_error_entity,
+    is_one_wrong, read_apply, vertex_function_named,
 };
 use std::alloc::{AllocError, Global};
 use syntax::{DeclaredType, Ends, Expression, Name};
@@ -76,27 +74,26 @@ impl BlockKind for MainBlock {
     }
 
     fn variable(
-        checker: &Checker,
+        checker: &mut Checker,
         at: usize,
         declared: DeclaredType,
         initializer: Initializer,
-        first_fault: &mut Option<Fault>,
     ) -> (Entity, StatementKind) {
         match declared {
             DeclaredType::Int => {
-                let value = initializer.into_integer(at, first_fault);
+                let value = initializer.into_integer(at, &mut checker.first_fault);
                 let slot = checker.integer_slot();
                 let statement = ValueStatement::DeclareInt(slot.name, value);
                 (Entity::IntVariable(slot), of_value(statement))
             }
             DeclaredType::Bool => {
-                let value = initializer.into_condition(at, first_fault);
+                let value = initializer.into_condition(at, &mut checker.first_fault);
                 let slot = checker.condition_slot();
                 let statement = ValueStatement::DeclareBool(slot.name, value);
                 (Entity::BoolVariable(slot), of_value(statement))
             }
             DeclaredType::VertexSet => {
-                let value = initializer.into_members(at, first_fault);
+                let value = initializer.into_members(at, &mut checker.first_fault);
                 let slot = checker.set_slot();
                 let statement = SimpleStatement::DeclareSet(slot.name, value);
                 (Entity::SetVariable(slot), StatementKind::Simple(statement))
@@ -104,7 +101,9 @@ impl BlockKind for MainBlock {
             DeclaredType::Vertex
             | DeclaredType::Vector
             | DeclaredType::EdgeSet
-            | DeclaredType::WeightedEdgeSet => { (Entity::Error, wrong(at, first_fault)) }
+            | DeclaredType::WeightedEdgeSet => {
+                (Entity::Error, wrong(at, &mut checker.first_fault))
+            }
         }
     }
 
@@ -152,27 +151,42 @@ impl BlockKind for MainBlock {
     }
 
     fn print(
-        checker: &Checker,
+        checker: &mut Checker,
         at: usize,
         value: &Expression,
-        first_fault: &mut Option<Fault>,
     ) -> Result<StatementKind, AllocError> {
-        let value = type_expression(checker.alloc, &checker.scope, at, value, first_fault)?;
-        Ok(print_value(at, value, first_fault))
+        let value = type_expression(
+            checker.alloc,
+            &checker.scope,
+            at,
+            value,
+            &mut checker.first_fault,
+        )?;
+        Ok(print_value(at, value, &mut checker.first_fault))
     }
 
     fn set_entry(
-        checker: &Checker,
+        checker: &mut Checker,
         written: WrittenEntry<'_>,
         value: &Expression,
-        first_fault: &mut Option<Fault>,
     ) -> Result<StatementKind, AllocError> {
         let at = written.vector.at();
-        let scope = &checker.scope;
-        let vector = vector(scope, at, written.vector, first_fault);
-        let index = type_expression(checker.alloc, scope, at, written.index, first_fault)?;
-        let index = index_of(at, index, first_fault);
-        let value = integer(checker.alloc, scope, at, value, first_fault)?;
+        let vector = vector(&checker.scope, at, written.vector, &mut checker.first_fault);
+        let index = type_expression(
+            checker.alloc,
+            &checker.scope,
+            at,
+            written.index,
+            &mut checker.first_fault,
+        )?;
+        let index = index_of(at, index, &mut checker.first_fault);
+        let value = integer(
+            checker.alloc,
+            &checker.scope,
+            at,
+            value,
+            &mut checker.first_fault,
+        )?;
         Ok(setting(vector, index, value))
     }
 
@@ -181,39 +195,54 @@ impl BlockKind for MainBlock {
         written: WrittenEntry<'_>,
         by: Reduction,
         value: &Expression,
-        first_fault: &mut Option<Fault>,
     ) -> Result<StatementKind, AllocError> {
         let at = written.vector.at();
-        let scope = &checker.scope;
-        let vector = vector(scope, at, written.vector, first_fault);
-        let index = type_expression(checker.alloc, scope, at, written.index, first_fault)?;
-        let index = index_of(at, index, first_fault);
-        let value = integer(checker.alloc, scope, at, value, first_fault)?;
+        let vector = vector(&checker.scope, at, written.vector, &mut checker.first_fault);
+        let index = type_expression(
+            checker.alloc,
+            &checker.scope,
+            at,
+            written.index,
+            &mut checker.first_fault,
+        )?;
+        let index = index_of(at, index, &mut checker.first_fault);
+        let value = integer(
+            checker.alloc,
+            &checker.scope,
+            at,
+            value,
+            &mut checker.first_fault,
+        )?;
         Ok(reducing(vector, index, by, value))
     }
 
     fn add_vertex(
-        checker: &Checker,
+        checker: &mut Checker,
         set: &Name,
         vertex: &Expression,
-        first_fault: &mut Option<Fault>,
     ) -> Result<StatementKind, AllocError> {
         let at = set.at();
-        let entity = entity(&checker.scope, set, first_fault);
-        let value = type_expression(checker.alloc, &checker.scope, at, vertex, first_fault)?;
-        Ok(add_value(at, value, entity, first_fault))
+        let entity = entity(&checker.scope, set, &mut checker.first_fault);
+        let value = type_expression(
+            checker.alloc,
+            &checker.scope,
+            at,
+            vertex,
+            &mut checker.first_fault,
+        )?;
+        Ok(add_value(at, value, entity, &mut checker.first_fault))
     }
 
-    fn apply(
-        checker: &Checker,
-        target: &Name,
-        ends: &Ends,
-        function: &Name,
-        first_fault: &mut Option<Fault>,
-    ) -> StatementKind {
+    fn apply(checker: &mut Checker, target: &Name, ends: &Ends, function: &Name) -> StatementKind {
         let at = target.at();
-        let apply = read_apply(&checker.scope, target, ends, function, first_fault);
-        apply_to(at, apply, has_ends(ends), first_fault)
+        let apply = read_apply(
+            &checker.scope,
+            target,
+            ends,
+            function,
+            &mut checker.first_fault,
+        );
+        apply_to(at, apply, has_ends(ends), &mut checker.first_fault)
     }
 
     ghost walked = { main_walked };

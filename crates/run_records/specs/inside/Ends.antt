@@ -1,5 +1,5 @@
 -- The ends of recorded applies.
-use Rattle.std.specs.Prelude.{◌≡◌, Option, Some, None}
+use Rattle.std.specs.Prelude.{◌≡◌, ℕ, ◌<◌, ◌==◌, false, Option, Some, None}
 use Rattle.typed_tree.specs.declared.statement.VertexFilter.{VertexFilter}
 use Rattle.typed_tree.specs.declared.statement.VertexFilter.TheVariants as named
 use Rattle.kernels.specs.declared.endpoint_filter.EndpointFilter.{EndpointFilter}
@@ -27,3 +27,7 @@ AreOfOneKind None None = Unit {0}
 AreOfOneKind (Some (end.Members a)) (Some (end.Members b)) = Unit {0}
 AreOfOneKind (Some (end.Filter a)) (Some (end.Filter b)) = a.now ≡ b.now
 AreOfOneKind a b = ⊥
+
+-- v is not the lesser of two numbers
+abbrev pub IsApart : (one other v : ℕ) → Type 0
+IsApart one other v = (one < other → (one == v) ≡ false) × (other < one → (other == v) ≡ false)

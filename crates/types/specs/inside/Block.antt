@@ -10,9 +10,9 @@ use Rattle.typed_tree.specs.declared.statement.StatementKind.{StatementKind}
 use Rattle.expression_types.specs.declared.scope.Entity.TheVariants as entity
 use Rattle.expression_types.specs.Faults.{sure, ◌>>=◌}
 use Rattle.expression_types.proofs.Steps.{bind-bind}
-use Rattle.types.specs.Checker.{CheckerTree, condition_slot, counted, integer_slot, set_slot}
+use Rattle.initializer_types.specs.Checker.{CheckerTree, condition_slot, counted, integer_slot, set_slot}
 use Rattle.types.specs.Block.{action_typed, statements_typed, then_statement}
-use Rattle.types.specs.Initial.{InitializerTree, initializer_condition, initializer_integer, initializer_members, initializer_of}
+use Rattle.initializer_types.specs.Initial.{InitializerTree, initializer_condition, initializer_integer, initializer_members, initializer_of}
 use Rattle.types.specs.Statement.{assigned, declare_as, reduced}
 use Rattle.types.specs.inside.BlockMeaning.{BlockMeaning, CompoundTree, For, If, IfElse, IsWalked, While, visible_then}
 use Rattle.types.specs.inside.Variables.{variable_as}

@@ -15,8 +15,8 @@ use Rattle.expression_types.specs.Faults.{WithFaults, sure, ◌>>=◌}
 use Rattle.expression_types.specs.ValueTree.{ValueTree}
 use Rattle.types.specs.declared.block_kind.Compound.{Compound}
 use Rattle.types.specs.declared.block_kind.Compound.TheVariants as rust
-use Rattle.types.specs.Checker.{CheckerTree, condition_in, declared_in, in_scope, integer_in, integer_slot, with_label}
-use Rattle.types.specs.Initial.{InitializerTree, initializer_of}
+use Rattle.initializer_types.specs.Checker.{CheckerTree, condition_in, declared_in, in_scope, integer_in, integer_slot, with_label}
+use Rattle.initializer_types.specs.Initial.{InitializerTree, initializer_of}
 
 -- a statement that holds blocks, with its parts typed
 pub data CompoundTree (Row : Type 0) : Type 0 where

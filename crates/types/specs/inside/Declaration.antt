@@ -3,7 +3,7 @@ use Rattle.std.specs.Prelude.{map, option_map}
 use Rattle.typed_tree.specs.BlockTree.{block_tree}
 use Rattle.typed_tree.specs.FunctionStatementTree.{function_tree}
 use Rattle.types.specs.declared.declaration.Declared.{Declared}
-use Rattle.types.specs.inside.Checker.{checker_of}
+use Rattle.initializer_types.specs.Views.{checker_of}
 use Rattle.types.specs.Declaration.{DeclaredTree}
 
 -- what contracts see

@@ -11,8 +11,8 @@ use Rattle.expression_types.specs.declared.fault.TypeRule.TheVariants as rule
 use Rattle.expression_types.specs.declared.scope.Entity.TheVariants as entity
 use Rattle.expression_types.specs.Faults.{sure, ◌>>=◌}
 use Rattle.expression_types.proofs.Steps.{bind-bind}
-use Rattle.types.specs.Checker.{CheckerTree, condition_slot, integer_slot}
-use Rattle.types.specs.Initial.{InitializerTree, initializer_condition, initializer_integer, initializer_of}
+use Rattle.initializer_types.specs.Checker.{CheckerTree, condition_slot, integer_slot}
+use Rattle.initializer_types.specs.Initial.{InitializerTree, initializer_condition, initializer_integer, initializer_of}
 use Rattle.types.specs.Step.{assigned_step, declare_step_as, no_step, reduced_step, step_after, step_typed, steps_typed}
 use Rattle.types.specs.inside.BlockMeaning.{BlockMeaning, CompoundTree, For, If, IfElse, IsWalked, While, visible_then}
 use Rattle.types.specs.inside.Variables.{step_variable_as}

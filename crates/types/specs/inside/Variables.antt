@@ -9,8 +9,8 @@ use Rattle.expression_types.specs.declared.fault.TypeRule.TheVariants as rule
 use Rattle.expression_types.specs.declared.scope.Entity.{Entity}
 use Rattle.expression_types.specs.declared.scope.Entity.TheVariants as entity
 use Rattle.expression_types.specs.Faults.{WithFaults, sure, fault_at, ◌>>=◌}
-use Rattle.types.specs.Checker.{CheckerTree, integer_slot, condition_slot, set_slot}
-use Rattle.types.specs.Initial.{InitializerTree, initializer_integer, initializer_condition, initializer_members}
+use Rattle.initializer_types.specs.Checker.{CheckerTree, integer_slot, condition_slot, set_slot}
+use Rattle.initializer_types.specs.Initial.{InitializerTree, initializer_integer, initializer_condition, initializer_members}
 use Rattle.types.specs.Statement.{no_action}
 use Rattle.types.specs.Step.{no_step}
 

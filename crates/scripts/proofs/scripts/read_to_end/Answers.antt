@@ -1,8 +1,9 @@
 -- Proofs of `read_to_end`, src/scripts.rt.
-use Rattle.std.proofs.Common.{◌≡◌, ◌∙◌, ◌++◌, ◌<◌, length, take, true, ap, arith, append-nil}
+use Rattle.std.proofs.Common.{◌≡◌, ◌∙◌, ◌++◌, ◌<◌, length, take, true, ap, arith, sym, subst, append-nil}
 use Rattle.std.proofs.lemmas.Bool.{or_right, and_from, eq-eqb, lt-ltb}
-use Rattle.scripts.specs.Script.{input}
-use Rattle.scripts.proofs.Running.{reading_unended, read_fails, lines_fail, reading_goes_on, flush_fails, finish_fails, last_flush_fails, script_ends, runs_failed}
+use Rattle.scripts.specs.Script.{Reading, input}
+use Rattle.scripts.specs.inside.Records.{AreRecordsIn}
+use Rattle.scripts.proofs.Running.{IsReading, reading_starts, reading_unended, read_fails, lines_fail, reading_goes_on, flush_fails, finish_fails, last_flush_fails, script_ends, runs_failed}
 use Rattle.scripts.proofs.scripts.read_to_end.Goals as goal
 
 pub returns-in-Err-clause-runs : goal.returns-in-Err-clause-runs
@@ -40,8 +41,8 @@ reads-preserved g c =
     record {
       records = c.in_ok-take.ensures.records;
       reading = reading_goes_on (g.P.Programs.trees c.args.host.now.programs.now) old now c.args.replies.now c.reads.state c.reads.replies c.reads.invariant.reading new
-    (take c.in-Ok.count c.read.new.buffer) c.in-Ok.ensures.bytes_read c.in-Ok.ensures.no_failure c.take.new.replies c.in_ok-take.ensures.emits c.take.new.self c.in_ok-take.ensures.reading
-    c.flush.new.self c.in_ok-flush.ensures.emits c.in_ok-flush.ensures.empty;
+          (take c.in-Ok.count c.read.new.buffer) c.in-Ok.ensures.bytes_read c.in-Ok.ensures.no_failure c.take.new.replies c.in_ok-take.ensures.emits c.take.new.self c.in_ok-take.ensures.reading
+          c.flush.new.self c.in_ok-flush.ensures.emits c.in_ok-flush.ensures.empty;
     }
 
 pub returns-in_err-flush-clause-runs : goal.returns-in_err-flush-clause-runs
@@ -94,3 +95,12 @@ returns-clause-runs g c =
     script_ends (g.P.Programs.trees c.args.host.now.programs.now) old now c.args.replies.now c.reads.state c.reads.replies c.reads.invariant.reading new nothing at_end c.in-Ok.ensures.no_failure
     c.finish.new.replies c.in_ok-finish.ensures.emits c.flush-2.new.self c.requires.kept c.in_ok-flush-2.ensures.empty c.in_ok-flush-2.ensures.emits _ c.in_ok-finish.ensures.state _
     c.has_faulted.ensures
+
+pub reads-init : goal.reads-init
+reads-init g c =
+    let now = input (g.R.Feed.bytes_read c.args.reader.now) (g.R.Feed.ended c.args.reader.now) (g.R.Feed.failures c.args.reader.now) in
+    record {
+      records = subst (λ (r : Reading). AreRecordsIn (g.P.Programs.is_record c.args.host.now.programs.now) r.state c.args.records.now) (sym c.requires.state) c.requires.records;
+      reading = subst (λ (r : Reading). IsReading (g.P.Programs.trees c.args.host.now.programs.now) now now c.args.replies.now r c.args.replies.now) (sym c.requires.state)
+          (reading_starts (g.P.Programs.trees c.args.host.now.programs.now) now c.args.replies.now c.requires.kept);
+    }

@@ -8,7 +8,7 @@ abbrev pub invariant-reads : goal.invariant-reads
 invariant-reads g l = record {
   records : AreRecordsIn (g.P.Programs.is_record l.fn.host.programs.now) l.state.state l.records;
   reading : IsReading (g.P.Programs.trees l.fn.host.programs.now) (input (g.R.Feed.bytes_read l.fn.reader) (g.R.Feed.ended l.fn.reader) (g.R.Feed.failures l.fn.reader))
-    (input (g.R.Feed.bytes_read l.reader) (g.R.Feed.ended l.reader) (g.R.Feed.failures l.reader)) l.fn.replies l.state l.replies;
+      (input (g.R.Feed.bytes_read l.reader) (g.R.Feed.ended l.reader) (g.R.Feed.failures l.reader)) l.fn.replies l.state l.replies;
 }
 
 abbrev pub decreases-reads : goal.decreases-reads

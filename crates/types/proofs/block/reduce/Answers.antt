@@ -4,11 +4,11 @@ use Rattle.expression_types.specs.Expression.{used_name, value_of}
 use Rattle.expression_types.specs.Faults.{◌>>=◌, outcome, sure}
 use Rattle.expression_types.specs.ValueTree.{value_tree}
 use Rattle.expression_types.proofs.Steps.{outcome_then}
-use Rattle.types.specs.inside.Checker.{checker_of}
+use Rattle.initializer_types.specs.Views.{checker_of}
 use Rattle.types.proofs.block.reduce.Goals as goal
 
-pub returns : goal.returns
-returns g c =
+pub returns-clause-typed : goal.returns-clause-typed
+returns-clause-typed g c =
     let m = g.K.BlockKind.meaning in
     let checker = checker_of c.args.checker.now in
     let scope = checker.scope in
@@ -17,7 +17,7 @@ returns g c =
     let n = c.entity-entity.result in
     let v = value_tree c.in_ok-value.value in
     let a = m.action_tree c.reduction.result in
-    let first = c.args.first_fault.now in
+    let first = c.args.checker.now.first_fault in
     let between = c.entity-entity.new.first_fault in
     let new = c.reduction.new.first_fault in
     ap (outcome first) (g.met.K.BlockKind.walked.reduces checker c.args.name.now by e)

@@ -7,5 +7,5 @@ use Rattle.types.proofs.declaration.declare_all.Given as goal
 
 abbrev pub invariant-declarations : goal.invariant-declarations
 invariant-declarations l =
-    outcome l.fn.first_fault (declarations_typed (declared_of l.fn.declared) (map declaration_tree l.declarations))
-    ≡ outcome l.first_fault (declarations_typed (declared_of l.declared) (map declaration_tree (drop l.declaration-index l.declarations)))
+    outcome l.fn.declared.checker.first_fault (declarations_typed (declared_of l.fn.declared) (map declaration_tree l.declarations))
+    ≡ outcome l.declared.checker.first_fault (declarations_typed (declared_of l.declared) (map declaration_tree (drop l.declaration-index l.declarations)))

@@ -5,11 +5,10 @@ use Rattle.typed_tree.specs.FunctionStatementTree.{NoStep, function_statements_t
 use Rattle.expression_types.specs.Faults.{ReportsFaults, ◌>>=◌}
 use Rattle.expression_types.specs.ScopeTree.{left}
 use Rattle.expression_types.proofs.Steps.{reports_then}
-use Rattle.types.specs.inside.Checker.{checker_of}
-use Rattle.types.specs.Checker.{in_scope}
+use Rattle.initializer_types.specs.Views.{checker_of, function_kind_tree}
+use Rattle.initializer_types.specs.Checker.{in_scope}
 use Rattle.types.specs.inside.Declaration.{declared_of}
 use Rattle.types.specs.Declaration.{function_declared, kind_fits, opened}
-use Rattle.types.specs.inside.FunctionKind.{function_kind_tree}
 use Rattle.types.specs.Step.{steps_typed}
 use Rattle.types.proofs.Kept.{left_again, keeps_on}
 use Rattle.types.proofs.declaration.function.Goals as goal
@@ -26,17 +25,17 @@ returns c =
     let inner = checker_of c.open.new.checker in
     let last = checker_of c.statements.new.checker in
     let b = function_statements_tree c.in_ok-steps.steps.items in
-    let new = c.function_is.new.first_fault in
+    let new = c.function_is.new.declared.checker.first_fault in
     let kept = keeps_on scope c.open.new.checker.scope c.statements.new.checker.scope c.in_ok-open.ensures.kept c.in_ok-steps.ensures.kept in
     let again = c.leave.ensures ∙ ap (λ m. left m c.statements.new.checker.scope) c.mark-mark.ensures.mark ∙ left_again scope c.statements.new.checker.scope kept in
-    reports_then (λ _. declared_of c.function_is.new.declared) c.args.first_fault.now c.want_kind.new.first_fault new fits fits.value
+    reports_then (λ _. declared_of c.function_is.new.declared) c.args.declared.now.checker.first_fault c.want_kind.new.first_fault new fits fits.value
     (λ f. opened d.checker kind ps r >>= λ k. steps_typed k NoStep body >>= λ b. function_declared (record d { checker = in_scope b.1 scope }) kind c.args.written.name.now b.0)
     c.function_is.result (λ i. (fits.value, c.want_kind.ensures i))
-    (reports_then (λ _. declared_of c.function_is.new.declared) c.want_kind.new.first_fault c.open.new.first_fault new (opened d.checker kind ps r) inner
+    (reports_then (λ _. declared_of c.function_is.new.declared) c.want_kind.new.first_fault c.open.new.checker.first_fault new (opened d.checker kind ps r) inner
     (λ k. steps_typed k NoStep body >>= λ b. function_declared (record d { checker = in_scope b.1 scope }) kind c.args.written.name.now b.0)
     c.function_is.result c.in_ok-open.ensures.opened
-    (reports_then (λ _. declared_of c.function_is.new.declared) c.open.new.first_fault c.statements.new.first_fault new (steps_typed inner NoStep body) (b, last)
+    (reports_then (λ _. declared_of c.function_is.new.declared) c.open.new.checker.first_fault c.statements.new.checker.first_fault new (steps_typed inner NoStep body) (b, last)
     (λ b. function_declared (record d { checker = in_scope b.1 scope }) kind c.args.written.name.now b.0) c.function_is.result c.in_ok-steps.ensures.typed
-    (subst (λ s. ReportsFaults (λ _. declared_of c.function_is.new.declared) c.statements.new.first_fault new c.function_is.result
+    (subst (λ s. ReportsFaults (λ _. declared_of c.function_is.new.declared) c.statements.new.checker.first_fault new c.function_is.result
     (function_declared (record d { checker = in_scope last s }) kind c.args.written.name.now b))
     again c.function_is.ensures)))

@@ -1,6 +1,6 @@
 use Rattle.std.proofs.Common.{◌≡◌, ◌∷◌, ◌++◌, drop, map}
 use Rattle.syntax.specs.SourceViews.{text_of}
-use Rattle.types.specs.Checker.{without_ends}
+use Rattle.initializer_types.specs.Checker.{without_ends}
 use Rattle.types.proofs.schedule.call_of.Given as goal
 
 abbrev pub invariant-texts : goal.invariant-texts

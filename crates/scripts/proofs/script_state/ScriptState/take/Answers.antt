@@ -1,5 +1,5 @@
 -- Proofs of `take`, src/script_state.rt.
-use Rattle.std.proofs.Common.{refl, rules}
+use Rattle.std.proofs.Common.{◌++◌, refl, rules}
 use Rattle.scripts.specs.Commands.{HasNone}
 use Rattle.scripts.proofs.RecordLaws.{AreRecordsIn-answer}
 use Rattle.scripts.proofs.ReadingLaws.{taking_starts, taking_ends, reading_ends, taking_line, taking_fails, taking_lacks}
@@ -24,9 +24,9 @@ lines-preserved g c =
     let is_record = g.P.Programs.is_record c.args.host.now.programs.now in
     record {
       taking = rw (c.in_ok-end_line.ensures.reading)
-      (taking_line (g.P.Programs.trees c.args.host.now.programs.now) c.args.self.now c.args.bytes.now _ c.lines.self c.lines.rest.now _ c.lines.invariant.taking c.in-Some.line.now c.in-Some.after.now
-      c.in-Some.ensures.cut.0 c.in-Some.ensures.cut.1 _ c.in_ok-end_line.ensures.emits);
-      records = rw (c.in_ok-end_line.ensures.reading) (AreRecordsIn-answer is_record _ (g.P.Programs.trees c.args.host.now.programs.now) c.lines.self.state _ c.end_line.ensures.records);
+          (taking_line (g.P.Programs.trees c.args.host.now.programs.now) c.args.self.now c.args.bytes.now _ c.lines.self c.lines.rest.now _ c.lines.invariant.taking c.in-Some.line.now c.in-Some.after.now
+          c.in-Some.ensures.cut.0 c.in-Some.ensures.cut.1 _ c.in_ok-end_line.ensures.emits);
+      records = rw (c.in_ok-end_line.ensures.reading) (AreRecordsIn-answer is_record _ (g.P.Programs.trees c.args.host.now.programs.now) c.lines.self.state (c.lines.self.partial ++ c.in-Some.line.now) c.end_line.ensures.records);
     }
 
 pub returns-in_err-extend_from_slice-clause-emits : goal.returns-in_err-extend_from_slice-clause-emits

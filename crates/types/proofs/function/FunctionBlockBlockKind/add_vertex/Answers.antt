@@ -7,17 +7,17 @@ use Rattle.expression_types.specs.Faults.{outcome, sure, fault_at, ◌>>=◌}
 use Rattle.expression_types.specs.ValueTree.{value_tree}
 use Rattle.expression_types.proofs.Steps.{outcome_then}
 use Rattle.types.specs.Step.{no_add, no_step}
-use Rattle.types.specs.inside.Checker.{checker_of}
+use Rattle.initializer_types.specs.Views.{checker_of}
 use Rattle.types.proofs.function.FunctionBlockBlockKind.add_vertex.Goals as goal
 
-pub returns : goal.returns
-returns c =
+pub returns-clause-typed : goal.returns-clause-typed
+returns-clause-typed c =
     let checker = checker_of c.args.checker.now in
     let scope = checker.scope in
     let at = c.at-at.result in
     let set = c.args.set.now in
     let e = c.args.vertex.now in
-    let first = c.args.first_fault.now in
+    let first = c.args.checker.now.first_fault in
     let noted = c.wrong-step.new.first_fault in
     let named = c.entity-set.new.first_fault in
     let new = c.type_expression.new.first_fault in

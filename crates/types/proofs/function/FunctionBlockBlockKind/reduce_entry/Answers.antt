@@ -6,9 +6,9 @@ use Rattle.expression_types.specs.Expression.{index_value, vector_index}
 use Rattle.expression_types.specs.Faults.{sure, outcome, ◌>>=◌}
 use Rattle.expression_types.specs.ValueTree.{value_tree}
 use Rattle.expression_types.proofs.Steps.{outcome_then}
-use Rattle.types.specs.inside.Checker.{checker_of}
+use Rattle.initializer_types.specs.Views.{checker_of}
 use Rattle.types.specs.Step.{may_reduce, own_vertex, reduction_step, with_writes, written_at, reduce_entry_step}
-use Rattle.types.specs.Checker.{integer_in}
+use Rattle.initializer_types.specs.Checker.{integer_in}
 use Rattle.typed_tree.specs.FunctionStatementTree.{function_statement_tree}
 use Rattle.types.proofs.function.FunctionBlockBlockKind.reduce_entry.Goals as goal
 
@@ -22,9 +22,9 @@ returns-clause-typed c =
     let v = value_tree c.in_ok-index.index in
     let own = c.is_own-own.result in
     let x = int_expression_tree c.in_ok-value.value in
-    subst (λ at. outcome c.args.first_fault.now (reduce_entry_step checker at c.args.written.vector.now c.args.written.index.now c.args.by c.args.value.now) ≡
+    subst (λ at. outcome c.args.checker.now.first_fault (reduce_entry_step checker at c.args.written.vector.now c.args.written.index.now c.args.by c.args.value.now) ≡
     ((function_statement_tree c.reducing.result, with_writes checker may.1), c.integer.new.first_fault)) c.at-at.ensures
-    (outcome_then c.args.first_fault.now c.vector-vector.new.first_fault (vector_index scope at c.args.written.vector.now) vector
+    (outcome_then c.args.checker.now.first_fault c.vector-vector.new.first_fault (vector_index scope at c.args.written.vector.now) vector
     (λ vector. may_reduce at scope.inside vector c.args.by checker.writes >>= λ may. index_value scope at c.args.written.index.now >>= λ v. written_at at
     (own_vertex scope.inside) v >>= λ own. integer_in scope at c.args.value.now >>= λ x. sure (reduction_step may.0 own vector c.args.by x, with_writes checker may.1)) c.vector-vector.ensures
     ∙ outcome_then c.vector-vector.new.first_fault c.may_reduce_entry.new.first_fault (may_reduce at scope.inside vector c.args.by checker.writes) may

@@ -7,9 +7,9 @@ use Rattle.expression_types.specs.Faults.{sure, ◌>>=◌, outcome}
 use Rattle.expression_types.specs.ValueTree.{value_tree}
 use Rattle.expression_types.proofs.Steps.{outcome_then}
 use Rattle.types.specs.Statement.{entry_reduced, reduce_entry}
-use Rattle.types.specs.Checker.{as_index, integer_in}
+use Rattle.initializer_types.specs.Checker.{as_index, integer_in}
 use Rattle.typed_tree.specs.BlockTree.{statement_kind_tree}
-use Rattle.types.specs.inside.Checker.{checker_of}
+use Rattle.initializer_types.specs.Views.{checker_of}
 use Rattle.types.proofs.statement.MainBlockBlockKind.reduce_entry.Goals as goal
 
 pub returns-clause-typed : goal.returns-clause-typed
@@ -21,11 +21,11 @@ returns-clause-typed c =
     let v = value_tree c.in_ok-index.index in
     let i = option_map int_expression_tree c.index_of-index.result in
     let x = int_expression_tree c.in_ok-value.value in
-    outcome_then c.args.first_fault.now c.integer.new.first_fault (reduce_entry scope c.args.written.vector.now.at c.args.written.vector.now c.args.written.index.now c.args.by c.args.value.now)
+    outcome_then c.args.checker.now.first_fault c.integer.new.first_fault (reduce_entry scope c.args.written.vector.now.at c.args.written.vector.now c.args.written.index.now c.args.by c.args.value.now)
     (statement_kind_tree c.reducing.result) (λ a. sure (a, checker))
-    (subst (λ at. outcome c.args.first_fault.now (reduce_entry scope at c.args.written.vector.now c.args.written.index.now c.args.by c.args.value.now) ≡
+    (subst (λ at. outcome c.args.checker.now.first_fault (reduce_entry scope at c.args.written.vector.now c.args.written.index.now c.args.by c.args.value.now) ≡
     (statement_kind_tree c.reducing.result, c.integer.new.first_fault)) c.at-at.ensures
-    (outcome_then c.args.first_fault.now c.vector-vector.new.first_fault (vector_index scope at c.args.written.vector.now) vector
+    (outcome_then c.args.checker.now.first_fault c.vector-vector.new.first_fault (vector_index scope at c.args.written.vector.now) vector
     (λ vector. value_of scope at c.args.written.index.now >>= λ v. as_index at v >>= λ i. integer_in scope at c.args.value.now >>= λ x. sure
     (entry_reduced vector i c.args.by x)) c.vector-vector.ensures
     ∙ outcome_then c.vector-vector.new.first_fault c.type_expression.new.first_fault (value_of scope at c.args.written.index.now) v

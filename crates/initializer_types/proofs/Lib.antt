@@ -1,0 +1,3 @@
+pub mod Applies
+pub mod Literals
+pub mod ValueOffsets

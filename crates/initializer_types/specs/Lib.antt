@@ -1,0 +1,5 @@
+pub mod Applies
+pub mod Checker
+pub mod DeclarationForms
+pub mod Initial
+pub mod Views
