@@ -2,14 +2,14 @@
 use mathlib.Core.List.{[], ◌∷◌}
 use mir.Syntax.{Sym}
 use denote.RattleType.{RattleType}
-use denote.Param.Send.{IsSend, IsSync, sendable}
-use denote.Param.SendFields.{as_row_send, declared_send, declared_sync}
+use denote.Param.Send.{IsSend, sendable}
+use denote.Param.SendFields.{as_row_send, declared_send}
 use denote.Struct.Field.{row_field}
 use denote.Struct.Tuple.{TupleAt, type_at}
 use Rattle.std.proofs.Crossing.{crosses}
 use Rattle.shared_graph.specs.declared.naming.Naming as naming
 use Rattle.shared_graph.proofs.Crossing.{reader_send}
-use Rattle.snapshot_runs.proofs.Crossing.{plan_sync, runs_send}
+use Rattle.snapshot_runs.proofs.Crossing.{runs_send}
 use Rattle.snapshot_runs.proofs.error.LatestRunError.TheSendSync.{the_send as error_send}
 use Rattle.races.specs.contracts.entrants.Entrant as entrant
 use Rattle.races.specs.contracts.entrants.EarlyRun as early

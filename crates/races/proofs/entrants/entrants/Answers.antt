@@ -1,5 +1,5 @@
 -- Proofs of `entrants`, src/entrants.rt.
-use Rattle.std.proofs.Common.{◌≡◌, ◌∙◌, length, map, sym, ap, rules}
+use Rattle.std.proofs.Common.{◌≡◌, ◌∙◌, length, sym, ap, rules}
 use Rattle.std.proofs.lemmas.Iterator.{YieldsList-from_map_by, YieldsList-from_zip}
 use Rattle.std.proofs.lemmas.Iterator.Adapters.{YieldsList-from_vec}
 use Rattle.std.proofs.lemmas.Iterator.Consumers.{map_from_collect}
