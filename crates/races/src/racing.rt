@@ -1,6 +1,8 @@
 //! The run of a race, on threads.
 ghost use Rattle.std.specs.Prelude.{◌≡◌, ◌+◌, IfErr, IfOk, length, map};
+ghost use Rattle.std.specs.Arc.{arc_value};
 ghost use Rattle.std.specs.List.{All};
+ghost use Rattle.snapshot_runs.specs.Runs.{plan_of_runs};
 ghost use Rattle.version_list.specs.Machine.{opened};
 ghost use Rattle.shared_graph.specs.Histories.{fresh_reader, fresh_readers};
 ghost use Rattle.races.specs.Race.{AllRan, IsRace, MayRun};
@@ -15,14 +17,14 @@ use plans::Plan;
 use shared_graph::{Naming, Opening, Reader, SharedError, SharedGraph, Token};
 use std::alloc::{AllocError, Global};
 use std::marker::Brand;
-use std::sync::Wait;
+use std::sync::{Arc, Wait};
 use std::thread::{self, Threads, join};
 use tree_batch::Batch;
 
 /// The runs of a race: each of these plans, by so many workers, for at most so many turns.
 #[derive(Clone, Copy)]
 struct PlannedRuns<'a> {
-    plans: &'a [&'a Plan],
+    plans: &'a [&'a Arc<Plan>],
     workers: usize,
     turns: u64,
 }
@@ -38,11 +40,11 @@ pub fn race<T: Threads + Wait + Sync>(
     rt: &T,
     alloc: Global,
     script: RaceScript,
-    plans: &[&Plan],
+    plans: &[&Arc<Plan>],
     workers: usize,
     turns: u64,
 ) -> Result<Race, RaceError>
-    ensures race { IfOk result (IsRace script.vertices 16777216 script.batches.items (map (λ p. p.now) plans.now) turns) }
+    ensures race { IfOk result (IsRace script.vertices 16777216 script.batches.items (map (λ p. arc_value p.now) plans.now) turns) }
     ensures opened { IfOk result (λ _. MayOpen script.vertices script.chunk_size (length plans.now + 1)) }
     ensures workers { IfOk result (λ race. MayRun workers race.runs.items) }
     ensures refused { IfErr result (RefusesRace script.vertices script.chunk_size 16777216 script.batches.items (length plans.now) workers) }
@@ -66,7 +68,7 @@ fn race_known<J: Naming + Send + Sync, T: Threads + Wait + Sync>(
     requires book { opening ≡ J.book }
     requires vertices { J.vertices ≡ script.vertices }
     requires room { J.room ≡ 16777216 }
-    ensures race { IfOk result (IsRace J.vertices J.room script.batches.items (map (λ p. p.now) programs.entry.plans.now) programs.entry.turns) }
+    ensures race { IfOk result (IsRace J.vertices J.room script.batches.items (map (λ p. arc_value p.now) programs.entry.plans.now) programs.entry.turns) }
     ensures opened { IfOk result (λ _. MayOpen J.vertices script.chunk_size (length programs.entry.plans.now + 1)) }
     ensures workers { IfOk result (λ race. MayRun programs.entry.workers race.runs.items) }
     ensures refused { IfErr result (RefusesRace J.vertices script.chunk_size J.room script.batches.items (length programs.entry.plans.now)
@@ -101,7 +103,7 @@ fn race_on<J: Naming + Send + Sync, T: Threads + Wait + Sync>(
 ) -> Result<(Vec<CommitReply>, Vec<ProgramRuns>), RaceError>
     requires writer { writer ≡ fresh_reader (length programs.plans.now) }
     requires readers { readers.items ≡ fresh_readers (length programs.plans.now) }
-    ensures raced { IfOk result (IsRaced J.vertices J.room batches.items (map (λ p. p.now) programs.entry.plans.now) programs.entry.turns) }
+    ensures raced { IfOk result (IsRaced J.vertices J.room batches.items (map (λ p. arc_value p.now) programs.entry.plans.now) programs.entry.turns) }
     ensures workers { IfOk result (λ raced. MayRun programs.entry.workers raced.1.items) }
     ensures refused { IfErr result (RefusesOnGraph (opened J.vertices J.room) batches.items programs.entry.workers) }
 {
@@ -114,7 +116,7 @@ fn race_on<J: Naming + Send + Sync, T: Threads + Wait + Sync>(
     let (ran, (writer, answered)) = join(
         rt,
         move || -> Result<Vec<EarlyRun<J>>, AllocError>
-            ensures { IfOk result (λ ran. AllRanEarly J.vertices turns workers entrants.entry.items ran.items) }
+            ensures { IfOk result (λ ran. AllRanEarly J.vertices turns workers entrants.items ran.items) }
         { run_all_early(rt, alloc, entrants, workers, turns) },
         move || -> (Reader<J>, Result<Vec<CommitReply>, AllocError>)
             ensures { AnswersAll (opened J.vertices J.room) writer batches.items result.1 result.0 }
@@ -168,20 +170,20 @@ fn reply(committed: Result<u64, SharedError>) -> Result<CommitReply, AllocError>
 }
 
 // Runs each program on a thread of its own.
-fn run_all_early<'a, J: Naming + Send + Sync, T: Threads + Sync>(
+fn run_all_early<J: Naming + Send + Sync, T: Threads + Sync>(
     rt: &T,
     alloc: Global,
-    entrants: Vec<Entrant<'a, J>>,
+    entrants: Vec<Entrant<J>>,
     workers: usize,
     turns: u64,
-) -> Result<Vec<EarlyRun<'a, J>>, AllocError>
-    ensures { IfOk result (λ ran. AllRanEarly J.vertices turns workers entrants.entry.items ran.items) }
+) -> Result<Vec<EarlyRun<J>>, AllocError>
+    ensures { IfOk result (λ ran. AllRanEarly J.vertices turns workers entrants.items ran.items) }
 {
     thread::map_vec(
         rt,
         entrants,
         &|entrant: Entrant<J>| -> EarlyRun<J>
-            ensures { (result.plan ≡ entrant.entry.plan) × RanEarly J.vertices turns workers result }
+            ensures { (plan_of_runs result.runs ≡ plan_of_runs entrant.runs) × RanEarly J.vertices turns workers result }
         { entrant.run(rt, alloc, workers, turns) },
     )
 }
@@ -190,13 +192,13 @@ fn run_all_early<'a, J: Naming + Send + Sync, T: Threads + Sync>(
 fn run_all_late<J: Naming, T: Threads + Sync>(
     rt: &T,
     alloc: Global,
-    ran: Vec<EarlyRun<'_, J>>,
+    ran: Vec<EarlyRun<J>>,
     told: &Token<J>,
     workers: usize,
     turns: u64,
 ) -> Result<Vec<ProgramRuns>, RaceError>
     requires { All (RanEarly J.vertices turns workers) ran.items }
-    ensures ran { IfOk result (λ runs. AllRan J.vertices J.room turns told.now (map (λ r. r.plan.now) ran.entry.items) runs.items) }
+    ensures ran { IfOk result (λ runs. AllRan J.vertices J.room turns told.now (map (λ r. plan_of_runs r.runs) ran.items) runs.items) }
     ensures workers { IfOk result (λ runs. MayRun workers runs.items) }
     ensures refused { IfErr result (RefusesRuns workers) }
 {

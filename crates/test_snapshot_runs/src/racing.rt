@@ -5,7 +5,7 @@ use crate::programs::{Program, TURNS};
 use plans::Plan;
 use races::{CommitReply, Race, RaceScript, VersionRun, race, race_script};
 use std::alloc::Global;
-use std::sync::Wait;
+use std::sync::{Arc, Wait};
 use std::test::Fail;
 use std::thread::Threads;
 
@@ -47,7 +47,7 @@ pub(crate) fn run_race<R: Threads + Wait + Sync>(
     rt: &R,
     alloc: Global,
     order: RaceScript,
-    plans: &[&Plan],
+    plans: &[&Arc<Plan>],
     workers: usize,
 ) -> Answer {
     match race(rt, alloc, order, plans, workers, TURNS) {

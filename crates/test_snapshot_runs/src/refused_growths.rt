@@ -15,6 +15,7 @@ use plans::Plan;
 use races::race_script;
 use runner::run;
 use std::alloc::Global;
+use std::sync::Arc;
 use std::test::Fail;
 use std::thread::Threads;
 use test_helpers::{ask, tell};
@@ -121,7 +122,7 @@ fn a_run_on_the_newest_version(rt: HostRuntime) -> Result<(), Fail> {
 #[test]
 fn a_race(rt: HostRuntime) -> Result<(), Fail> {
     let alloc = rt.alloc();
-    let plan = compile(alloc, Program::OnPaths.text())?;
+    let plan = Arc::new(alloc, compile(alloc, Program::OnPaths.text())?)?;
     let (order, again) = (race_script(alloc, RACE)?, race_script(alloc, RACE)?);
     let asked = ask(&rt);
     let first = run_race(&rt, alloc, order, &[&plan], 2);

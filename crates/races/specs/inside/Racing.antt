@@ -8,6 +8,7 @@ use Rattle.version_list.specs.Machine.{State}
 use Rattle.plans.specs.declared.plan.Plan.{Plan}
 use Rattle.shared_graph.specs.declared.error.SharedError.{SharedError}
 use Rattle.shared_graph.specs.declared.error.SharedError.TheVariants as shared
+use Rattle.shared_graph.specs.declared.naming.Naming as naming
 use Rattle.shared_graph.specs.Histories.{ReaderState}
 use Rattle.shared_graph.specs.Outcome.{number_of}
 use Rattle.races.specs.declared.entrants.EarlyRun.{EarlyRun}
@@ -19,14 +20,15 @@ use Rattle.races.specs.declared.error.RaceError.{RaceError}
 use Rattle.races.specs.declared.error.RaceError.TheVariants.{NotOpened, NotRun}
 use Rattle.races.specs.Race.{AreAnswered, AreRaced, IsRunOn}
 use Rattle.races.specs.RaceScript.{RefusesRun}
+use Rattle.snapshot_runs.specs.Runs.{plan_of_runs}
 
 -- the run is on the newest version of the history that the reader shows, or refused
-abbrev pub RanEarly : {J : Type 0} → ℕ → ℕ → ℕ → EarlyRun J → Type 0
-RanEarly n turns workers ran = IfOk ran.run (IsRunOn n ran.plan.now turns ran.reader.shown) × IfErr ran.run (RefusesRun workers)
+abbrev pub RanEarly : {J : Type 0} {g : naming.Ghosts J} → ℕ → ℕ → ℕ → EarlyRun J g → Type 0
+RanEarly n turns workers ran = IfOk ran.run (IsRunOn n (plan_of_runs ran.runs) turns ran.reader.shown) × IfErr ran.run (RefusesRun workers)
 
 -- the programs that ran are those of the entrants, in order, and each ran
-abbrev pub AllRanEarly : {J : Type 0} → ℕ → ℕ → ℕ → List (Entrant J) → List (EarlyRun J) → Type 0
-AllRanEarly n turns workers entrants ran = (map (λ r. r.plan.now) ran ≡ map (λ e. e.plan.now) entrants) × All (RanEarly n turns workers) ran
+abbrev pub AllRanEarly : {J : Type 0} {g : naming.Ghosts J} → ℕ → ℕ → ℕ → List (Entrant J g) → List (EarlyRun J g) → Type 0
+AllRanEarly n turns workers entrants ran = (map (λ r. plan_of_runs r.runs) ran ≡ map (λ e. plan_of_runs e.runs) entrants) × All (RanEarly n turns workers) ran
 
 -- all batches are answered so; or memory ran out
 abbrev pub AnswersAll : State → ReaderState → List (List Change) → Result (Vec CommitReply) AllocError → ReaderState → Type 0

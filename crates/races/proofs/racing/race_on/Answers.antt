@@ -23,7 +23,7 @@ number_send = search sendable
 -- the programs go to another thread with their readers, and their runs come back
 pub join-ran-requires-send-F : goal.join-ran-requires-send-F
 join-ran-requires-send-F g c κs within =
-    param_send _ _ (arg_send _ no _ (five_send _ _ _ _ _ _ (shr_send _ _ _ c.type_bounds.sync-T) heap_send (Vec-send _ (entrant_send _ (param 0 g.row.J) g.J.Naming)) size_send number_send))
+    param_send _ _ (arg_send _ no _ (five_send _ _ _ _ _ _ (shr_send _ _ _ c.type_bounds.sync-T) heap_send (Vec-send _ (entrant_send (param 0 g.row.J) g.J.Naming)) size_send number_send))
 
 pub join-ran-requires-send-A : goal.join-ran-requires-send-A
 join-ran-requires-send-A g c κs within = search (sendable, crosses, early_run_send) depth 30
