@@ -18,7 +18,7 @@ use races::{Race, RaceError, RaceScript, RaceScriptError, race, race_script, wri
 use shared_graph::SharedError;
 use snapshot_runs::LatestRunError;
 use std::alloc::{AllocError, Global};
-use std::sync::Wait;
+use std::sync::{Arc, Wait};
 use std::thread::Threads;
 
 /// The files of a race: the script, and the programs.
@@ -71,10 +71,13 @@ fn note_faults(raced: &Race, first_fault: &FirstFault) {
 }
 
 // The plans of programs that were compiled.
-fn plans_of<'a>(alloc: Global, compiled: &'a [CompiledPlan]) -> Result<Vec<&'a Plan>, AllocError>
-    ensures { IfOk result (λ plans. map (λ p. p.now) plans.items ≡ map (λ c. arc_value c.plan) compiled.now) }
+fn plans_of<'a>(
+    alloc: Global,
+    compiled: &'a [CompiledPlan],
+) -> Result<Vec<&'a Arc<Plan>>, AllocError>
+    ensures { IfOk result (λ plans. map (λ p. arc_value p.now) plans.items ≡ map (λ c. arc_value c.plan) compiled.now) }
 {
-    compiled.iter().map(|one| &*one.plan).collect(alloc)
+    compiled.iter().map(|one| &one.plan).collect(alloc)
 }
 
 // The script of a race that the file of this name holds.

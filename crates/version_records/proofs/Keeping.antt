@@ -7,7 +7,7 @@ use Rattle.version_flats.specs.VersionFlats.{IsKept}
 use Rattle.version_records.specs.declared.version_records.Predecessor.{Predecessor}
 use Rattle.version_records.specs.declared.version_records.VersionRecords.{VersionRecords}
 use Rattle.version_records.specs.inside.Versions.{AreVersionsOf}
-use Rattle.version_records.specs.VersionRecords.{AreRecordsOf, AreVersionsOf, HaveNone, IsOfFormer, IsPredecessor, MayKeep, MayLose}
+use Rattle.version_records.specs.VersionRecords.{AreRecordsOf, HaveNone, IsOfFormer, IsPredecessor, MayKeep, MayLose}
 
 module _ {R : Type 0} (is_record : (program : ℕ) → R → Digraph → Type 0) where
   -- what is left are records
