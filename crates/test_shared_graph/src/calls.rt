@@ -120,7 +120,11 @@ fn since_holds<J: Naming>(
         Call::CountsSince(_, wanted) => edges.map(|edges| edges.len()) == wanted,
         _ => false,
     };
-    Ok((snapshot.number, holds))
+    let history = reader.history();
+    if reader.knows(&history) {
+        return Ok((snapshot.number, holds));
+    }
+    Ok((snapshot.number, false))
 }
 
 // Takes the newest version with the edges since another, which must be what a call says.
