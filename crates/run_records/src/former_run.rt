@@ -254,8 +254,8 @@ fn stays_local(apply: &Apply<'_>) -> bool
     }
 }
 
-/// How many edges may be gone over to follow a former apply: half of those that the apply has from its sources, if these are a
-/// set, and half of all else.
+/// How many edges may be gone over to follow a former apply: about half of those that the apply has from its sources, if these are
+/// a set, and half of all else.
 fn budget_of(apply: &Apply<'_>) -> usize {
     match apply.from {
         Some(EndpointFilter::Members(set)) => set_budget(apply, set),
@@ -263,13 +263,13 @@ fn budget_of(apply: &Apply<'_>) -> usize {
     }
 }
 
-/// Half of the edges from a set. It stops counting where they are more than a twentieth of all edges, which are pulled.
+/// Half of the edges from a set. If they are more than a twentieth of all edges, of which the hybrid then pulls, a quarter of all.
 fn set_budget(apply: &Apply<'_>, sources: &VertexSet) -> usize {
     let most = apply.flat.edge_count() / 20;
     let mut edges = 0usize;
     'sources: for source in sources.iter() {
         if most < edges {
-            return edges / 2;
+            return apply.flat.edge_count() / 4;
         }
         edges += apply.flat.out_degree(source) as usize;
     }

@@ -14,7 +14,7 @@ use run_state::RunView;
 use runner::EdgeMap;
 use std::alloc::{AllocError, Global};
 use vectors::{Changes, EntryChange, VectorChanges, Vectors};
-use vertex_sets::VertexSet;
+use vertex_sets::{Form, VertexSet};
 
 /// The applies of a run so far, and the vectors at the first.
 #[derive(Drop)]
@@ -117,11 +117,15 @@ fn bytes_of(changes: &Changes) -> usize {
     bytes
 }
 
-/// How many bytes a set takes at most: 4 for each member.
+/// How many bytes a set takes: 4 for each member of a list, and a byte or a bit for each vertex in its other forms.
 fn bytes_of_set(set: &Option<VertexSet>) -> usize {
     match set {
         None => 0,
-        Some(members) => members.len().saturating_mul(4),
+        Some(set) => match set.form() {
+            Form::List => set.len().saturating_mul(4),
+            Form::Flags => set.vertices() as usize,
+            Form::Bits => set.vertices() as usize / 8,
+        },
     }
 }
 
