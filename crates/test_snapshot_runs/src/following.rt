@@ -1,4 +1,5 @@
 //! Runs on the newest version that follow one another, on streams of small edits, beside runs from nothing.
+ghost use Rattle.std.specs.Prelude.{◌≡◌};
 
 use bench_support::{Random, random_weight};
 use compiler::compile;
@@ -75,11 +76,11 @@ fn check_run<J: Naming, R: Threads + Sync>(
     rt: &R,
     alloc: Global,
     runs: &mut Runs<J>,
-    readers: (&mut Reader<J>, &mut Reader<J>),
+    reader: &mut Reader<J>,
+    other: &mut Reader<J>,
     workers: usize,
     turns: u64,
 ) -> Result<Checked, Fail> {
-    let (reader, other) = readers;
     let (version, outcome) = run_latest_after(rt, alloc, runs, reader, workers, turns, &Open)?;
     let (newest, wanted) = run_latest(rt, alloc, runs.plan(), other, 1, turns, &Open)?;
     if version != newest {
@@ -106,12 +107,11 @@ fn check_stream<J: Naming, R: Threads + Wait + Sync>(
     for round in 0..BATCHES {
         let turns = TURNS[random.below(3) as usize];
         let workers = WORKERS[random.below(3) as usize];
-        let both = if round % 3 == 0 {
-            (&mut *other, &mut *reader)
+        let checked = if round % 3 == 0 {
+            check_run(rt, alloc, &mut runs, other, reader, workers, turns)?
         } else {
-            (&mut *reader, &mut *other)
+            check_run(rt, alloc, &mut runs, reader, other, workers, turns)?
         };
-        let checked = check_run(rt, alloc, &mut runs, both, workers, turns)?;
         if checked.is_err() {
             return Ok(checked);
         }
