@@ -1,4 +1,6 @@
 pub mod Numbered
 pub mod Walks
 pub mod Snapshots
+pub mod Chunks
+pub mod Following
 pub mod Crossing

@@ -16,6 +16,8 @@
 #![tactic(auto)]
 
 mod adjacency;
+mod changed_chunks;
+mod chunk;
 mod degrees;
 mod flat;
 
