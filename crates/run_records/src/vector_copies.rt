@@ -17,10 +17,7 @@ pub(crate) fn copied(alloc: Global, vectors: &Vectors) -> Result<Vectors, AllocE
 }
 
 /// A copy of each vector as a slice, or `None` if one does not stand alone. The only error is out of memory.
-fn copied_slices(
-    alloc: Global,
-    vectors: &Vectors,
-) -> Result<Option<Vec<Sequence<i64>>>, AllocError>
+fn copied_slices(alloc: Global, vectors: &Vectors) -> Result<Option<Vec<Sequence<i64>>>, AllocError>
     ensures { IfOk result (λ found. IfSome found (λ arrays. arrays.items ≡ vectors.now.vectors)) }
 {
     let mut arrays = Vec::with_capacity(alloc, vectors.count())?;
