@@ -110,7 +110,7 @@ impl<J: Naming, R: Wait + Drop> SharedGraph<J, R> {
     ///
     /// ```
     /// let (graph, readers, writer) = SharedGraph::<J, &T>::open_with_writer(
-    ///     rt, alloc, opening, vertices, chunk_size, others,
+    ///     rt, alloc, opening, vertices, chunk_size, programs.plans.len(),
     /// )?;
     /// ```
     pub fn open_with_writer(
