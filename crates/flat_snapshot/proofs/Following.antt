@@ -1,6 +1,6 @@
 -- Neighbours that two lists, or two graphs, have in common.
-use Rattle.std.proofs.Common.{◌≡◌, ◌≢◌, ℕ, ℤ, zero, suc, ◌+◌, ◌*◌, ◌/◌, ◌%◌, ◌<◌, ◌≤◌, ◌^◌, ◌==◌, Bool, true, false, not, ◌&&◌, inl, inr, Option, Some, None, List, [], ◌∷◌, length, get_or, refl, sym, ◌∙◌, ap, subst, arith}
-use Rattle.std.specs.List.{filter, list_any}
+use Rattle.std.proofs.Common.{◌≡◌, ℕ, ℤ, suc, ◌+◌, ◌*◌, ◌/◌, ◌%◌, ◌<◌, ◌≤◌, ◌^◌, ◌==◌, Bool, true, false, not, ◌&&◌, inl, inr, Option, Some, None, List, [], ◌∷◌, length, get_or, refl, sym, ◌∙◌, ap, subst, arith}
+use Rattle.std.specs.List.{filter}
 use Rattle.std.proofs.lemmas.Bool.{cases_Bool, cases_eq, cases_lt, or_cases, and_parts, ne_eqb, eq-eqb, eqb-true, false≢true}
 use Rattle.std.specs.declared.sync.Arc.{Arc}
 use Rattle.ascending_lists.specs.Maps.{Rises, lookup}
@@ -8,9 +8,9 @@ use Rattle.ascending_lists.proofs.MapOrder.{rises_to}
 use Rattle.ascending_lists.proofs.MapValues.{same_entries}
 use Rattle.weighted_edges.specs.Edge.{Edge}
 use Rattle.pages.specs.Vertices.{neighbours_of}
-use Rattle.vertex_blocks.specs.Blocks.{Block, IsBlock, AreBlocks, AreNeighbourLists, IsNeighbourList, lists_of, vertices_at}
+use Rattle.vertex_blocks.specs.Blocks.{Block, IsBlock, AreBlocks, AreNeighbourLists, lists_of, vertices_at}
 use Rattle.vertex_blocks.proofs.Numbering.{list_in_blocks}
-use Rattle.tree_batch.specs.Edge.{Ends, weight_in}
+use Rattle.tree_batch.specs.Edge.{Ends}
 use Rattle.tree_batch.specs.Digraph.{Digraph, IsDigraph}
 use Rattle.tree_batch.specs.Neighbours.{destinations_of, sources_of}
 use Rattle.tree_batch.specs.VertexBlocks.{AreBlocksOf}
@@ -70,9 +70,10 @@ found_block k (b ∷ bs) are = elim (cases_eq b.0 k) [
 found_blocks : (first : ℕ) (bs : List (ℕ × Block)) (slots : List (Option Block)) → AreBlocks bs → ((i : ℕ) → i < length slots → get_or slots i None ≡ lookup (first + i) bs) → AreInPlace slots
 found_blocks first bs [] are found = tt
 found_blocks first bs (o ∷ os) are found =
-    let here : o ≡ lookup (first + 0) bs = found 0 (omega arith) in
-    (subst (λ x. IsBlock (vertices_at x)) (sym here) (found_block (first + 0) bs are),
-     found_blocks (first + 1) bs os are (λ i lt. found (suc i) (omega (arith, lt)) ∙ ap (λ k. lookup k bs) (omega arith)))
+    let here : o ≡ lookup (first + 0) bs = found 0 (omega arith) in (
+      subst (λ x. IsBlock (vertices_at x)) (sym here) (found_block (first + 0) bs are),
+      found_blocks (first + 1) bs os are (λ i lt. found (suc i) (omega (arith, lt)) ∙ ap (λ k. lookup k bs) (omega arith)),
+    )
 
 -- slots with what was found in their places are a chunk
 pub found_chunk : (k : ℕ) (bs : List (ℕ × Block)) (slots : List (Option Block)) → Rises 0 (2 ^ 18) bs → AreBlocks bs → length slots ≡ 64 → ((i : ℕ) → i < 64 → get_or slots i None ≡ lookup (64 * k + i) bs)

@@ -1,10 +1,9 @@
 //! Chunks of 64 blocks, which flats share.
 
-ghost use Rattle.std.specs.Prelude.{◌≡◌, ◌^◌, ◌<◌, IfOk};
-ghost use Rattle.std.specs.Option.{option_copied};
+ghost use Rattle.std.specs.Prelude.{◌≡◌, ◌+◌, ◌^◌, ◌<◌, ◌≤◌, length, IfOk};
 ghost use Rattle.ascending_lists.specs.Maps.{Rises};
 ghost use Rattle.vertex_blocks.specs.Blocks.{AreBlocks, lists_of};
-ghost use Rattle.flat_snapshot.specs.inside.Chunks.{IsChunkOf};
+ghost use Rattle.flat_snapshot.specs.inside.Chunks.{ArePut, IsChunkOf};
 
 use pages::BLOCK_SIZE;
 use shared_tree::{Share, Tree};
@@ -42,21 +41,32 @@ impl Chunk {
         requires blocks { AreBlocks tree.now.entries }
         ensures { IfOk result (λ chunk. IsChunkOf (lists_of tree.now.entries) number chunk.value.blocks) }
     {
-        let first = number * CHUNK_BLOCKS;
         let mut blocks: [Option<VertexBlock>; 64] = Default::default();
-        for place in 0..64 {
-            blocks[place] = shared(tree.find(first + place as u32))?;
-        }
+        put_blocks(tree, number * CHUNK_BLOCKS, &mut blocks)?;
         Ok(Arc::new(alloc, Chunk { blocks })?)
     }
 }
 
-/// A block with one more owner, if there is one. The only error is out of memory.
-fn shared(block: Option<&VertexBlock>) -> Result<Option<VertexBlock>, AllocError>
-    ensures { IfOk result (λ other. other ≡ option_copied block.entry) }
+/// Puts the blocks of a tree with the 64 numbers from one on into their places. The only error is out of memory.
+fn put_blocks(
+    tree: &Tree<VertexBlock>,
+    first: u32,
+    places: &mut [Option<VertexBlock>],
+) -> Result<(), AllocError>
+    requires count { length places.old ≡ 64 }
+    requires room { first + 64 ≤ 2 ^ 32 }
+    ensures { IfOk result (λ _. ArePut tree.now.entries first places.old places.new) }
 {
-    match block {
-        Some(block) => Ok(Some(block.share()?)),
-        None => Ok(None),
+    let Some((below, number, block, above)) = tree.parts() else {
+        return Ok(());
+    };
+    if number < first {
+        return put_blocks(above, first, places);
     }
+    if number - first >= CHUNK_BLOCKS {
+        return put_blocks(below, first, places);
+    }
+    put_blocks(below, first, places)?;
+    places[(number - first) as usize] = Some(block.share()?);
+    put_blocks(above, first, places)
 }

@@ -73,9 +73,9 @@ impl Flat {
     }
 
     /// The flat snapshot of a graph whose edges are those of a former flat but for the listed ones, each its source and its
-    /// destination. It may list edges that do not differ. All blocks but those of the listed edges are shared with the
-    /// former flat, in chunks of 64: it takes time and memory in proportion to the number of chunks and of listed edges,
-    /// and for each chunk with a listed edge to the look-ups of its blocks.
+    /// destination. Edges that do not differ may be listed too, and the graph may have more vertices. Chunks of 64 blocks
+    /// that no listed edge names are shared with the former flat. It takes memory in proportion to the number of chunks,
+    /// and time in proportion to it, to the listed edges and to 64 for each chunk that one of them names.
     ///
     /// The only error is out of memory.
     pub fn following(

@@ -1,7 +1,8 @@
 -- Chunks of 64 blocks.
 use Rattle.std.specs.Prelude.{◌≡◌, ℕ, ℤ, ◌+◌, ◌^◌, ◌<◌, ◌≤◌, ◌/◌, ◌%◌, Bool, true, Option, None, List, [], ◌∷◌, ◌++◌, length, get_or}
+use Rattle.std.specs.Option.{option_or}
 use Rattle.std.specs.declared.sync.Arc.{Arc}
-use Rattle.ascending_lists.specs.Maps.{Rises}
+use Rattle.ascending_lists.specs.Maps.{Rises, lookup}
 use Rattle.pages.specs.Vertices.{neighbours_of}
 use Rattle.vertex_blocks.specs.Blocks.{Block, AreBlocks, lists_of, vertices_at}
 use Rattle.tree_batch.specs.VertexBlocks.{HaveFew}
@@ -40,3 +41,8 @@ pub record AreBlocksBelow (n : ℕ) (bs : List (ℕ × Block)) : Type 0 where
   pub few : HaveFew (lists_of bs)
   pub count : n ≤ 2 ^ 24
   pub none : (u : ℕ) → n ≤ u → neighbours_of u (lists_of bs) ≡ []
+
+-- the blocks with the 64 numbers from one on came into their places
+pub record ArePut (bs : List (ℕ × Block)) (first : ℕ) (old new : List (Option Block)) : Type 0 where
+  pub count : length new ≡ length old
+  pub places : (i : ℕ) → i < 64 → get_or new i None ≡ option_or (lookup (first + i) bs) (get_or old i None)

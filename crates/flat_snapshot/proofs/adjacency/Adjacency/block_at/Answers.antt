@@ -19,8 +19,8 @@ returns c = λ u at.
     let there : u / 4096 < length a.chunks.items = omega (arith, at, c.if-index-len.false, c.len.ensures) in
     let found = in_chunk u a.chunks.items chunk block c.self.invariant.1 there in
     let in_place : get_or (get_or a.chunks.items (u / 4096) chunk).value.blocks (u / 64 % 64) block ≡ get_or c.deref.result.now.blocks (c.args.number % 64) block =
-        ap (λ k. get_or (get_or a.chunks.items (u / 4096) chunk).value.blocks (k % 64) block) at
-        ∙ ap (λ k. get_or (get_or a.chunks.items k chunk).value.blocks (c.args.number % 64) block) (omega (arith, at))
-        ∙ ap (λ it. get_or it.value.blocks (c.args.number % 64) block) (sym c.index.ensures)
-        ∙ ap (λ it. get_or it.blocks (c.args.number % 64) block) (sym c.deref.ensures) in
+    ap (λ k. get_or (get_or a.chunks.items (u / 4096) chunk).value.blocks (k % 64) block) at
+    ∙ ap (λ k. get_or (get_or a.chunks.items k chunk).value.blocks (c.args.number % 64) block) (omega (arith, at))
+    ∙ ap (λ it. get_or it.value.blocks (c.args.number % 64) block) (sym c.index.ensures)
+    ∙ ap (λ it. get_or it.blocks (c.args.number % 64) block) (sym c.deref.ensures) in
     rw (← c.self.view_is, c.as_ref.ensures.value) (sym (found ∙ ap (λ o. neighbours_of (u % 64) (vertices_at o)) in_place))

@@ -1,5 +1,5 @@
 -- Proofs of `following`, src/flat.rt.
-use Rattle.std.proofs.Common.{◌≡◌, ◌/◌, ◌∙◌, ap}
+use Rattle.std.proofs.Common.{◌∙◌, ap}
 use Rattle.tree_batch.specs.Neighbours.{destinations_of, sources_of}
 use Rattle.flat_snapshot.proofs.Following.{same_out, same_in}
 use Rattle.flat_snapshot.proofs.flat.Flat.following.Goals as goal

@@ -1,9 +1,7 @@
 -- Proofs of `sharing`, src/flat.rt.
-use Rattle.std.proofs.Common.{◌≡◌, ◌/◌, ◌∙◌, ap, sym}
+use Rattle.std.proofs.Common.{◌≡◌, ◌∙◌, ap}
 use Rattle.tree_batch.specs.inside.Digraph.{digraph}
-use Rattle.tree_batch.specs.Neighbours.{destinations_of, sources_of, edges_of}
-use Rattle.vertex_blocks.specs.Blocks.{lists_of}
-use Rattle.flat_snapshot.specs.inside.Chunks.{is_changed}
+use Rattle.tree_batch.specs.Neighbours.{edges_of}
 use Rattle.flat_snapshot.proofs.Snapshots.{flat_made, digraph_is}
 use Rattle.flat_snapshot.proofs.Following.{destinations_below, sources_below}
 use Rattle.flat_snapshot.proofs.flat.Flat.sharing.Goals as goal
