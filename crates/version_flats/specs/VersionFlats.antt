@@ -1,5 +1,5 @@
 -- The flats of versions that are kept.
-use Rattle.std.specs.Prelude.{◌≡◌, ◌≢◌, ℕ, ◌≤◌, ◌⊎◌, true, nat_eq, Option, Some}
+use Rattle.std.specs.Prelude.{◌≡◌, ◌≢◌, ℕ, ◌≤◌, ◌⊎◌, true, nat_eq, Option, Some, IfSome}
 use Rattle.std.specs.Option.{option_map}
 use Rattle.indexmap.specs.IndexMap.{get}
 use Rattle.tree_batch.specs.Digraph.{Digraph}
@@ -10,15 +10,21 @@ use Rattle.version_flats.specs.declared.version_flats.VersionFlats.{VersionFlats
 abbrev pub flat_of : VersionFlats → ℕ → Option Digraph
 flat_of flats k = option_map (λ flat. flat.value) (get nat_eq flats.flats k)
 
+-- version k was made, and g is its graph
+pub record IsMade (s : State) (k : ℕ) (g : Digraph) : Type 0 where
+  pub made : k ≤ newest_number s
+  pub graph : g ≡ version_graph s k
+
 -- version k is kept, and g is its graph
 pub record IsKept (s : State) (k : ℕ) (g : Digraph) : Type 0 where
   pub kept : is_kept s k ≡ true
   pub made : k ≤ newest_number s
   pub graph : g ≡ version_graph s k
 
--- each flat is that of a version that is kept
-abbrev pub AreOf : State → VersionFlats → Type 0
-AreOf s flats = (k : ℕ) (g : Digraph) → flat_of flats k ≡ Some g → IsKept s k g
+-- each flat is that of a version that is kept, and the last one of a newest version is that of a version that was made, which may be gone
+pub record AreOf (s : State) (flats : VersionFlats) : Type 0 where
+  pub kept : (k : ℕ) (g : Digraph) → flat_of flats k ≡ Some g → IsKept s k g
+  pub last : IfSome flats.last (λ l. IsMade s l.version l.flat.value)
 
 -- each flat is one from before, or that of version k, whose graph is g
 abbrev pub MayGain : VersionFlats → ℕ → Digraph → VersionFlats → Type 0

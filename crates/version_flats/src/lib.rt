@@ -5,6 +5,10 @@
 //! kept. [`VersionFlats::flat`] keeps it, and after a step that may let a version go [`VersionFlats::let_go`]
 //! brings it back.
 //!
+//! Beside the map stands one flat more, the last one that was made of a version that was the newest then. The flat of a
+//! later newest version shares with it what did not change. It stays until that flat is made, also if a commit
+//! has let its version go.
+//!
 //! The crate of scripts depends on it.
 #![tactic(auto)]
 

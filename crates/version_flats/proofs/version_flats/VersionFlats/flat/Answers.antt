@@ -1,5 +1,5 @@
 -- Proofs of `flat`, src/version_flats.rt.
-use Rattle.std.proofs.Common.{◌≡◌, ◌∙◌, Result, Ok, Err, Some, rules}
+use Rattle.std.proofs.Common.{◌≡◌, ◌∙◌, sym, Result, Ok, Err, Some, rules}
 use Rattle.std.specs.Result.{IfOk, MatchResult}
 use Rattle.version_flats.specs.VersionFlats.{flat_of}
 use Rattle.version_flats.proofs.version_flats.VersionFlats.flat.Goals as goal
@@ -12,5 +12,5 @@ same_value f (Err e) v w is same = tt
 pub returns-in-Some-clause-flat : goal.returns-in-Some-clause-flat
 returns-in-Some-clause-flat c =
     let there : flat_of c.args.self.now c.args.version ≡ Some c.in-Some.flat.now.value = search rules in
-    let same : c.in-Some.flat.now.value ≡ c.args.graph.now = c.requires _ there in
+    let same : c.in-Some.flat.now.value ≡ c.args.graph.now = (c.requires.flats.kept _ _ there).graph ∙ sym c.requires.graph.graph in
     same_value (λ d. d.value) c.clone.result _ _ c.clone.ensures.cases same
