@@ -75,24 +75,24 @@ shows_the_meaning p s g turns k end =
     let r = runs_as p s g turns in
     all_done p s g turns k r end (cases_lt k r.count)
 
--- a run gets there after some number of steps
-pub record IsReached (p : ProgramTree) (g : GraphValue) (plan : List InstructionTree) (turns : ℕ) (c : Configuration) : Type 0 where
+-- a run gets from the first configuration to the other by some number of steps
+pub record IsReached (p : ProgramTree) (g : GraphValue) (plan : List InstructionTree) (first c : Configuration) : Type 0 where
   pub count : ℕ
-  pub is : c ≡ steps p g plan count (first_configuration (initial_state p g turns))
+  pub is : c ≡ steps p g plan count first
 
-pub reached_first : (p : ProgramTree) (g : GraphValue) (plan : List InstructionTree) (turns : ℕ) (c : Configuration) → c ≡ first_configuration (initial_state p g turns) → IsReached p g plan turns c
-reached_first p g plan turns c is = record { count = 0; is = is }
+pub reached_itself : (p : ProgramTree) (g : GraphValue) (plan : List InstructionTree) (c : Configuration) → IsReached p g plan c c
+reached_itself p g plan c = record { count = 0; is = refl }
 
-pub reached_next : (p : ProgramTree) (g : GraphValue) (plan : List InstructionTree) (turns : ℕ) (c next : Configuration) → IsReached p g plan turns c → next ≡ step p g plan c
-    → IsReached p g plan turns next
-reached_next p g plan turns c next r is = record { count = suc r.count; is = is ∙ ap (step p g plan) r.is ∙ sym (steps_next p g plan r.count (first_configuration (initial_state p g turns))) }
+pub reached_next : (p : ProgramTree) (g : GraphValue) (plan : List InstructionTree) (first c next : Configuration) → IsReached p g plan first c → next ≡ step p g plan c
+    → IsReached p g plan first next
+reached_next p g plan first c next r is = record { count = suc r.count; is = is ∙ ap (step p g plan) r.is ∙ sym (steps_next p g plan r.count first) }
 
 shows_so : (p : ProgramTree) (plan : List InstructionTree) (turns : ℕ) (c : Configuration) (o : Outcome) → Shows p turns c o → outcome_so_far p turns plan c ≡ o
 shows_so p plan turns (At index loops s) o is = absurd is
 shows_so p plan turns (Ended s end) o is = is
 
 -- a run that has ended shows what the program means
-pub means : (p : ProgramTree) (s : ScheduleTree) (g : GraphValue) (turns : ℕ) (c : Configuration) → IsReached p g (plan_of p s) turns c → HasEnded c
+pub means : (p : ProgramTree) (s : ScheduleTree) (g : GraphValue) (turns : ℕ) (c : Configuration) → IsReached p g (plan_of p s) (first_configuration (initial_state p g turns)) c → HasEnded c
     → outcome_so_far p turns (plan_of p s) c ≡ meaning p g turns
 means p s g turns c r end =
     let there = shows_the_meaning p s g turns r.count (subst HasEnded r.is end) in

@@ -69,7 +69,8 @@ impl Model for Job {
 impl Job {
     ghost use Rattle.runner.specs.Job.{stand_of};
     ghost use Rattle.runner.specs.Position.{outcome_so_far};
-    ghost use Rattle.runner.specs.Resting.{job_value};
+    ghost use Rattle.runner.specs.Resting.{job_value, HasStepped};
+    ghost use Rattle.runner.specs.declared.job.Stand.TheVariants.{Ended};
 
     /// A run that is before the first instruction, for at most n turns. The only error is out of memory.
     pub fn new(
@@ -90,6 +91,20 @@ impl Job {
         })
     }
 
+    /// The plan of the run.
+    pub fn plan(&self) -> &Arc<Plan>
+        ensures { arc_value result.now ≡ self.now.plan }
+    {
+        &self.plan
+    }
+
+    /// The graph of the run.
+    pub fn graph(&self) -> &Arc<Flat>
+        ensures { arc_value result.now ≡ self.now.graph }
+    {
+        &self.graph
+    }
+
     /// Does one instruction, and tells whether the run continues. A run that has ended stays as it is.
     ///
     /// The only error is out of memory, and then nothing is changed.
@@ -107,6 +122,19 @@ impl Job {
             Some(end) => Ok(Stand::Ended(end)),
             None => Ok(Stand::Going),
         }
+    }
+
+    /// Does instructions until the run has ended, and gives its end. A run that has ended stays as it is.
+    ///
+    /// The only error is out of memory, and then the run is before one of the instructions that were still to do.
+    pub fn finish<E: EdgeApplier>(&mut self, alloc: Global, by: &mut E) -> Result<End, AllocError>
+        requires { E.is_ready by.old self.old.plan.functions self.old.graph }
+        ensures applier { E.is_ready by.new self.old.plan.functions self.old.graph }
+        ensures steps { (p : ProgramTree) (s : ScheduleTree) → IsPlan self.old.plan p s → AppliesReduce p (plan_of p s)
+            → HasStepped p s self.old self.new }
+        ensures end { IfOk result (λ end. stand_of self.new.stands ≡ Ended end) }
+    {
+        self.run.run_to_end(alloc, &self.plan, &self.graph, by)
     }
 
     /// What the run shows so far: the vectors, the text, the turns used, and the sets that are visible at the next

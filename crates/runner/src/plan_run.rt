@@ -1,5 +1,5 @@
 //! A run of a plan, and how it ends.
-ghost use Rattle.std.specs.Prelude.{◌≡◌, ◌<◌, ◌^◌, ◌+◌, IfOk, None, unwrap_or};
+ghost use Rattle.std.specs.Prelude.{◌≡◌, ◌<◌, ◌^◌, ◌+◌, IfOk, None, Some, unwrap_or};
 ghost use Rattle.algorithm_meaning.specs.declared.outcome.End.TheVariants.{TurnsOver};
 ghost use Rattle.typed_tree.specs.ProgramTree.{ProgramTree};
 ghost use Rattle.apply_options.specs.ScheduleTree.{ScheduleTree};
@@ -8,12 +8,14 @@ ghost use Rattle.algorithm_meaning.specs.Loop.{forget_beyond};
 ghost use Rattle.plans.specs.Machine.{Ended, first_configuration};
 ghost use Rattle.plans.specs.Plan.{plan_of};
 ghost use Rattle.plans.specs.PlanOf.{IsPlan};
+ghost use Rattle.plans.specs.Reducing.{AppliesReduce};
 ghost use Rattle.run_state.specs.State.{graph_value};
 ghost use Rattle.runner.specs.inside.Done.{after_flow};
 ghost use Rattle.runner.specs.inside.Groups.{AreGroupsOf};
-ghost use Rattle.runner.specs.inside.Position.{configuration_of, IsShown, loops_of};
+ghost use Rattle.runner.specs.inside.Position.{configuration_of, IsShown, RestsLater, loops_of};
 ghost use Rattle.runner.specs.Position.{outcome_so_far};
 
+use crate::edge_applier::EdgeApplier;
 use crate::flow::Flow;
 use crate::memory::Memory;
 use algorithm_meaning::{Depth, End, Outcome};
@@ -70,6 +72,35 @@ impl PlanRun {
             end: None,
             memory,
         })
+    }
+
+    /// Does instructions of the plan and on the graph that the run was opened with, until it has ended, and gives its end. The
+    /// applier first forgets what it knows of vectors. After an error the run is before one of the instructions that were still
+    /// to do. The only error is out of memory.
+    pub(crate) fn run_to_end<E: EdgeApplier>(
+        &mut self,
+        alloc: Global,
+        plan: &Plan,
+        graph: &Flat,
+        by: &mut E,
+    ) -> Result<End, AllocError>
+        requires graph { self.old.memory.state.vertices ≡ graph.now.vertices }
+        requires groups { AreGroupsOf plan.now graph.now self.old.memory.state.groups }
+        requires applier { E.is_ready by.old plan.now.functions graph.now }
+        ensures applier { E.is_ready by.new plan.now.functions graph.now }
+        ensures steps { (p : ProgramTree) (s : ScheduleTree) → IsPlan plan.now p s → AppliesReduce p (plan_of p s)
+            → RestsLater plan.now p s (graph_value graph.now) (configuration_of self.old) (configuration_of self.new) }
+        ensures vertices { self.new.memory.state.vertices ≡ graph.now.vertices }
+        ensures groups { AreGroupsOf plan.now graph.now self.new.memory.state.groups }
+        ensures end { IfOk result (λ end. self.new.end ≡ Some end) }
+    {
+        by.forget_vectors();
+        'steps: loop {
+            if let Some(end) = self.end {
+                return Ok(end);
+            }
+            self.step(alloc, plan, graph, by)?;
+        }
     }
 
     /// Continues where an instruction leads, or ends there.

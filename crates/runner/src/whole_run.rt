@@ -46,10 +46,7 @@ pub fn run_by<E: EdgeApplier>(
     ensures ready { E.is_ready by.new plan.now.functions graph.now }
 {
     let mut run = PlanRun::open(alloc, plan, graph, turns)?;
-    by.forget_vectors();
-    'steps: while run.end.is_none() {
-        run.step(alloc, plan, graph, by)?;
-    }
+    run.run_to_end(alloc, plan, graph, by)?;
     run.into_outcome(alloc, plan, turns)
 }
 

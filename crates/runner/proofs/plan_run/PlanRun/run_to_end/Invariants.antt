@@ -8,18 +8,19 @@ use Rattle.run_state.specs.State.{graph_value}
 use Rattle.runner.specs.inside.Groups.{AreGroupsOf}
 use Rattle.runner.specs.inside.Position.{configuration_of, steps_left}
 use Rattle.runner.proofs.Running.{IsReached}
-use Rattle.runner.proofs.whole_run.run_by.Given as goal
+use Rattle.runner.proofs.plan_run.PlanRun.run_to_end.Given as goal
 
--- the run is on the graph, its vectors are grouped as the plan says, it is in a configuration that the machine reaches, and the applier
+-- the run is on the graph, its vectors are grouped as the plan says, the machine goes there from where the run began, and the applier
 -- knows its vectors
 abbrev pub invariant-steps : goal.invariant-steps
 invariant-steps g l = record {
-  on : l.run.memory.state.vertices ≡ l.graph.vertices;
-  groups : AreGroupsOf l.plan l.graph l.run.memory.state.groups;
-  reached : (p : ProgramTree) (s : ScheduleTree) → IsPlan l.plan p s → AppliesReduce p (plan_of p s) → IsReached p (graph_value l.graph) (plan_of p s) l.turns (configuration_of l.run);
+  on : l.self.memory.state.vertices ≡ l.graph.vertices;
+  groups : AreGroupsOf l.plan l.graph l.self.memory.state.groups;
+  reached : (p : ProgramTree) (s : ScheduleTree) → IsPlan l.plan p s → AppliesReduce p (plan_of p s)
+      → IsReached p (graph_value l.graph) (plan_of p s) (configuration_of l.initial.self) (configuration_of l.self);
   applier : g.E.EdgeApplier.is_ready l.by l.plan.functions l.graph;
-  knows : g.E.EdgeApplier.knows l.by l.run.memory.state.state.vectors;
+  knows : g.E.EdgeApplier.knows l.by l.self.memory.state.state.vectors;
 }
 
 abbrev pub decreases-steps : goal.decreases-steps
-decreases-steps g l = steps_left l.plan l.run
+decreases-steps g l = steps_left l.plan l.self
