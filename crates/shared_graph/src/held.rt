@@ -7,6 +7,7 @@ ghost use Rattle.shared_graph.specs.Histories.{IsVersionOf};
 use crate::error::SharedError;
 use crate::history_prefix::HistoryPrefix;
 use crate::naming::Naming;
+use crate::reader::Token;
 use crate::snapshot::Snapshot;
 use std::marker::Model;
 use version_list::Ticket;
@@ -59,6 +60,13 @@ impl<J: Naming> Held<J> {
         ensures version { IsVersionOf J.vertices self.now.history self.now.version self.now.graph }
     {
         &self.snapshot
+    }
+
+    /// The history at whose end it was held, as a token. Takes no memory.
+    pub fn history(&self) -> Token<J>
+        ensures { result ≡ self.now.history }
+    {
+        Token::of(&self.history)
     }
 
     /// The version that is held, which stays kept, since nobody can release its ticket any more.

@@ -265,6 +265,25 @@ impl<J: Naming> Model for Token<J> {
     ghost view = { λ t. t.history_prefix };
 }
 
+impl<J: Naming> Token<J> {
+    /// A history as a token.
+    pub(crate) fn of(history_prefix: &HistoryPrefix<J>) -> Token<J>
+        ensures { result ≡ history_prefix.now }
+    {
+        Token {
+            history_prefix: history_prefix.again(),
+        }
+    }
+
+    /// Whether the other history begins with this one; else this one begins with the other, since both
+    /// are of one graph. Takes no memory.
+    pub fn begins(&self, other: &Token<J>) -> bool
+        ensures { MatchBool result (IsPrefix self.now other.now) (IsPrefix other.now self.now) }
+    {
+        self.history_prefix.begins(&other.history_prefix)
+    }
+}
+
 // What is asked of the value that is shown: a history that begins with this one, and whether the edges
 // that the last commits named are asked for too.
 #[derive(Drop)]
