@@ -1,4 +1,3 @@
 pub mod Lists
+pub mod Chunks
 pub mod FlatEdges
--- What the code is made of: no public contract cites these definitions.
-pub mod Slots

@@ -1,14 +1,17 @@
 //! Flat snapshots of graphs.
 
-ghost use Rattle.std.specs.Prelude.{◌≡◌, ℕ, ◌/◌, ◌%◌, ◌^◌, ◌≤◌, length, IfOk};
+ghost use Rattle.std.specs.Prelude.{◌≡◌, ℕ, ◌/◌, ◌%◌, ◌^◌, ◌≤◌, false, length, IfOk};
 ghost use Rattle.std.specs.Option.{option_copied};
 ghost use Rattle.pages.specs.Vertices.{neighbours_of};
 ghost use Rattle.vertex_blocks.specs.Blocks.{vertices_at};
 ghost use Rattle.tree_batch.specs.Digraph.{IsDigraph};
 ghost use Rattle.tree_batch.specs.Neighbours.{destinations_of, sources_of};
+ghost use Rattle.edge_differences.specs.Listed.{AreSameBut};
 ghost use Rattle.flat_snapshot.specs.FlatEdges.{AreDegreesOf};
+ghost use Rattle.flat_snapshot.specs.inside.Chunks.{is_changed};
 
 use crate::adjacency::Adjacency;
+use crate::changed_chunks::ChangedChunks;
 use crate::degrees::Degrees;
 use std::alloc::{AllocError, Global};
 use std::marker::Model;
@@ -64,13 +67,52 @@ impl Flat {
     pub fn of(alloc: Global, graph: &Graph) -> Result<Flat, AllocError>
         ensures { IfOk result (λ f. f ≡ graph.now) }
     {
+        let none = Adjacency::none(alloc);
+        let all = ChangedChunks::all(alloc);
+        Flat::sharing(alloc, graph, &none, &none, &all)
+    }
+
+    /// The flat snapshot of a graph whose edges are those of a former flat but for the listed ones, each its source and its
+    /// destination. Edges that do not differ may be listed too, and the graph may have more vertices. Chunks of 64 blocks
+    /// that no listed edge names are shared with the former flat. It takes memory in proportion to the number of chunks,
+    /// and time in proportion to it, to the listed edges and to 64 for each chunk that one of them names.
+    ///
+    /// The only error is out of memory.
+    pub fn following(
+        alloc: Global,
+        former: &Flat,
+        graph: &Graph,
+        edges: &[(u32, u32)],
+    ) -> Result<Flat, AllocError>
+        requires edges { AreSameBut edges.now graph.now.edges former.now.edges }
+        ensures { IfOk result (λ f. f ≡ graph.now) }
+    {
+        let changed = ChangedChunks::of(alloc, graph.vertices(), edges)?;
+        Flat::sharing(alloc, graph, &former.outgoing, &former.incoming, &changed)
+    }
+
+    /// The flat snapshot of a graph, which shares the chunks that do not change with the neighbours along edges and
+    /// against them of a former flat. The only error is out of memory.
+    fn sharing(
+        alloc: Global,
+        graph: &Graph,
+        outgoing: &Adjacency,
+        incoming: &Adjacency,
+        changed: &ChangedChunks,
+    ) -> Result<Flat, AllocError>
+        requires out { (u : ℕ) → is_changed changed.now.outgoing.items (u / 4096) ≡ false
+            → neighbours_of u outgoing.now ≡ destinations_of u graph.now.edges }
+        requires into { (v : ℕ) → is_changed changed.now.incoming.items (v / 4096) ≡ false
+            → neighbours_of v incoming.now ≡ sources_of v graph.now.edges }
+        ensures { IfOk result (λ f. f ≡ graph.now) }
+    {
         let vertices = graph.vertices();
-        let edge_count = graph.edge_count();
-        let outgoing = Adjacency::of(alloc, vertices, graph.outgoing())?;
-        let incoming = Adjacency::of(alloc, vertices, graph.incoming())?;
+        let (outs, ins) = (graph.outgoing_tree(), graph.incoming_tree());
+        let outgoing = outgoing.following(alloc, vertices, outs, &changed.outgoing)?;
+        let incoming = incoming.following(alloc, vertices, ins, &changed.incoming)?;
         Ok(Flat {
             vertices,
-            edge_count,
+            edge_count: graph.edge_count(),
             outgoing,
             incoming,
         })

@@ -6,16 +6,20 @@
 //! number. `sources` and `destinations` go over the vertices that have edges. None of these takes
 //! memory.
 //!
-//! For each direction a flat keeps an array with a slot for each 64 vertices, where the graph's
+//! For each direction a flat keeps chunks of 64 slots, a slot for each 64 vertices, where the graph's
 //! block of them stands ([`VertexBlock`](vertex_blocks::VertexBlock)): a look-up needs no tree. The
-//! blocks are the graph's own, counted once more, so making a flat copies no list. A block never
-//! changes, so a flat may outlive its graph, and threads may share it.
+//! blocks are the graph's own, counted once more, so making a flat copies no list. Flats share chunks:
+//! `Flat::following` makes the flat of a graph whose edges are those of a former flat but for listed
+//! ones, and makes the chunks of these alone anew. A block never changes, so a flat may outlive its
+//! graph, and threads may share it.
 //!
 //! Engines that run programs over graphs depend on this crate. Flat snapshots are those of Aspen
 //! (Dhulipala, Blelloch, Shun, PLDI 2019), with a slot for each block in place of each vertex.
 #![tactic(auto)]
 
 mod adjacency;
+mod changed_chunks;
+mod chunk;
 mod degrees;
 mod flat;
 

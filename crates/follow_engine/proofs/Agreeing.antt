@@ -1,5 +1,6 @@
 -- Vectors agree where none of them differs.
-use Rattle.std.proofs.Common.{◌≡◌, ℕ, zero, suc, ◌<◌, ◌≤◌, inl, inr, Bool, true, false, not, ℤ, pos, List, [], length, slice_index_or, refl, ap, ap₂, sym, ◌∙◌, subst, arith, ◌+◌, ◌||◌}
+use Rattle.std.proofs.Common.{◌≡◌, ℕ, zero, suc, ◌<◌, ◌≤◌, inl, inr, Bool, true, false, not, cond, ℤ, pos, List, [], ◌∷◌, length, slice_index_or, refl, ap, ap₂, sym, ◌∙◌, subst, arith, ◌+◌, ◌||◌}
+use Rattle.std.specs.List.{filter}
 use Rattle.std.proofs.lemmas.Bool.Decides.{nat_tests}
 use Rattle.std.proofs.lemmas.Bool.{cases_lt, or_parts}
 use Rattle.std.proofs.lemmas.Int.{ints}
@@ -61,3 +62,8 @@ differs a b n v x less is = sym (differs_here a b n v x less is)
 pub none_more : (a b : List (List ℤ)) (n v : ℕ) → differ_at a b n v ≡ false → not (int_equal (entry a n v) (entry b n v)) ≡ false
     → differ_at a b (n + 1) v ≡ false
 none_more a b n v none next = subst (λ (k : ℕ). differ_at a b k v ≡ false) (next_number n) (ap₂ (λ (s t : Bool). s || t) none next)
+
+-- none of a list is kept by a test that none passes
+pub none_kept : (test : ℕ → Bool) (vs : List ℕ) → ((v : ℕ) → test v ≡ false) → filter test vs ≡ []
+none_kept test [] off = refl
+none_kept test (v ∷ vs) off = ap (λ (b : Bool). cond b (v ∷ filter test vs) (filter test vs)) (off v) ∙ none_kept test vs off

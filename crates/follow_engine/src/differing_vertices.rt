@@ -1,5 +1,5 @@
 //! The vertices at which vectors differ.
-ghost use Rattle.std.specs.Prelude.{◌≡◌, ◌≤◌, ◌++◌, ℕ, ℤ, false, not, if◌then◌else◌, List, [], ◌∷◌, length, IfOk, OnOk};
+ghost use Rattle.std.specs.Prelude.{◌≡◌, ◌≤◌, ◌++◌, ℕ, ℤ, true, false, not, if◌then◌else◌, List, [], ◌∷◌, length, IfOk, OnOk};
 ghost use Rattle.algorithm_meaning.specs.Arithmetic.{int_equal};
 ghost use Rattle.algorithm_meaning.specs.Value.{entry};
 ghost use Rattle.std.specs.List.{filter};
@@ -29,7 +29,8 @@ pub fn differing(
 }
 
 /// The vertices below n at which one of the first `count` vectors has another entry in `now` than in `was`, in ascending order. The
-/// only error is out of memory. It takes time in proportion to n and to `count`.
+/// only error is out of memory. It takes time in proportion to n and to `count`. Vectors that stand alone and differ nowhere are
+/// compared as slices.
 pub fn all_differing(
     alloc: Global,
     now: &Vectors,
@@ -40,10 +41,35 @@ pub fn all_differing(
     ensures { IfOk result (λ found. found.items ≡ filter (differ_at now.now.vectors was.now.vectors count) (all_below n)) }
 {
     let mut found = Vec::new(alloc);
+    if have_same_entries(now, was, count) {
+        return Ok(found);
+    }
     'vertices: for vertex in 0..n {
         keep_if(differ(now, was, count, vertex), vertex, &mut found)?;
     }
     Ok(found)
+}
+
+/// Whether the first `count` vectors stand alone on both sides and have the same entries.
+fn have_same_entries(now: &Vectors, was: &Vectors, count: usize) -> bool
+    ensures { result ≡ true → (v : ℕ) → differ_at now.now.vectors was.now.vectors count v ≡ false }
+{
+    'vectors: for vector in 0..count {
+        if !has_same_entries(now, was, vector) {
+            return false;
+        }
+    }
+    true
+}
+
+/// Whether a vector stands alone on both sides and has the same entries.
+fn has_same_entries(now: &Vectors, was: &Vectors, vector: usize) -> bool
+    ensures { result ≡ true → (v : ℕ) → entry now.now.vectors vector v ≡ entry was.now.vectors vector v }
+{
+    match (now.lane(vector).entries(), was.lane(vector).entries()) {
+        (Some(entries), Some(others)) => entries == others,
+        _ => false,
+    }
 }
 
 /// Appends a vertex if it is to be kept. The only error is out of memory.

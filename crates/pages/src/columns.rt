@@ -68,6 +68,18 @@ impl EntryColumns {
     pub fn push(&mut self, neighbour: u32, weight: i64) -> Result<(), AllocError>
         ensures { IfOk result (λ _. self.new ≡ self.old ++ (neighbour, weight) ∷ []) }
     {
+        if weight == 1 && self.weights.is_empty() {
+            self.keys.push(neighbour)?;
+            return Ok(());
+        }
+        self.push_weighted(neighbour, weight)
+    }
+
+    /// Like `push`, also if not all weights are 1. It is apart, so that callers without weights have little code.
+    #[inline(never)]
+    fn push_weighted(&mut self, neighbour: u32, weight: i64) -> Result<(), AllocError>
+        ensures { IfOk result (λ _. self.new ≡ self.old ++ (neighbour, weight) ∷ []) }
+    {
         let len = self.keys.len();
         if weight == 1 {
             self.weights.truncate(len);

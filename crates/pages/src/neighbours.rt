@@ -1,6 +1,6 @@
 //! The neighbours of a vertex, as they lie packed in bytes.
 
-ghost use Rattle.std.specs.Prelude.{◌≡◌, ◌↔◌, pos, ◌+◌, ◌<◌, ◌≤◌, ◌++◌, [], length, slice_index, slice_range, get_or, take, drop, reverse, IfOk, IsTrue};
+ghost use Rattle.std.specs.Prelude.{◌≡◌, ◌↔◌, ℕ, pos, ◌+◌, ◌<◌, ◌≤◌, ◌++◌, [], length, slice_index, slice_range, get_or, take, drop, reverse, IfOk, IsTrue};
 ghost use Rattle.std.specs.Map.{keys_of, values_of};
 ghost use Rattle.ascending_lists.specs.Ascending.{AscendsFrom};
 ghost use Rattle.ascending_lists.specs.Sets.{has};
@@ -249,7 +249,8 @@ impl<'a> Neighbours<'a> {
     }
 
     /// The index up to which the neighbours from another on are below a vertex, and the index from
-    /// which they are above it. Where the vertex is among them, it is at the first index.
+    /// which they are above it. Where the vertex is among them, it is at the first index. It takes time
+    /// `O(log d)`, where d is the distance of the first index from `from`.
     pub(crate) fn cut(&self, from: usize, neighbour: u32) -> (usize, usize)
         requires { from ≤ length self.now }
         ensures order { (from ≤ result.0) × (result.0 ≤ result.1) × (result.1 ≤ length self.now) }
@@ -257,7 +258,7 @@ impl<'a> Neighbours<'a> {
         ensures below { slice_range self.now from result.0 ≡ entries_below neighbour (drop from self.now) }
         ensures above { drop result.1 self.now ≡ entries_above neighbour (drop from self.now) }
     {
-        let (mut low, mut high) = (from, self.len());
+        let (mut low, mut high) = self.bracket(from, neighbour);
         while low < high {
             let middle = low + (high - low) / 2;
             let found = self.neighbour(middle);
@@ -273,6 +274,30 @@ impl<'a> Neighbours<'a> {
         (low, low)
     }
 
+    /// Two indices: the neighbours from `from` up to the first are below a vertex, and those from the
+    /// second on are above it. It looks at distances that double (Bentley, Yao, An almost optimal
+    /// algorithm for unbounded searching, 1976).
+    fn bracket(&self, from: usize, neighbour: u32) -> (usize, usize)
+        requires { from ≤ length self.now }
+        ensures order { (from ≤ result.0) × (result.0 ≤ result.1) × (result.1 ≤ length self.now) }
+        ensures below { (i : ℕ) → from ≤ i → i < result.0 → get_or (keys_of self.now) i 0 < neighbour }
+        ensures above { (i : ℕ) → result.1 ≤ i → i < length self.now
+            → neighbour < get_or (keys_of self.now) i 0 }
+        ensures ascending { AscendsFrom 0 (keys_of self.now) }
+    {
+        let len = self.len();
+        let (mut low, mut jump) = (from, 1);
+        while jump <= len - low {
+            let high = low + jump;
+            if self.neighbour(high - 1) >= neighbour {
+                return (low, high);
+            }
+            low = high;
+            jump *= 2;
+        }
+        (low, len)
+    }
+
     /// Adds the neighbours from an index up to another after others, with their weights if not all are
     /// 1. The only error is out of memory.
     pub(crate) fn append_to(
@@ -285,6 +310,9 @@ impl<'a> Neighbours<'a> {
         requires within { to ≤ length self.now }
         ensures { IfOk result (λ _. list.new ≡ list.old ++ slice_range self.now from to) }
     {
+        if from == to {
+            return Ok(());
+        }
         let count = to - from;
         self.append_weights(from, count, list.keys.len(), &mut list.weights)?;
         self.append_keys(from, count, &mut list.keys)?;

@@ -158,13 +158,11 @@ fn flags_of_end(
     match end {
         VertexFilter::Members(slot) => {
             let members = members_at(&state.sets, slot.index);
-            let flags = flags_of_members(alloc, vertices, members)?;
-            Ok(flags)
+            flags_of_members(alloc, vertices, members)
         }
         VertexFilter::Function(function) => {
             let steps = steps_at(filters, function);
-            let flags = flags_of_filter(alloc, steps, vertices, &state.sets, &mut state.vectors)?;
-            Ok(flags)
+            flags_of_filter(alloc, steps, vertices, &state.sets, &mut state.vectors)
         }
     }
 }

@@ -9,3 +9,4 @@ pub mod Beside
 pub mod Meant
 pub mod Showing
 pub mod SideBySide
+pub mod SameMembers

@@ -53,8 +53,8 @@ fn set_differences(
     }
 }
 
-/// The vertices that are members of one of two sets, and not of both. It takes the time of going over both. The only error is out
-/// of memory.
+/// The vertices that are members of one of two sets, and not of both. It takes the time of going over both. If both have the same
+/// members in one form, these are compared as slices. The only error is out of memory.
 pub(crate) fn members_of_one(
     alloc: Global,
     set: &VertexSet,
@@ -62,9 +62,28 @@ pub(crate) fn members_of_one(
 ) -> Result<Vec<u32>, AllocError>
     ensures { IfOk result (λ found. (v : ℕ) → is_member v found.items ≡ false → is_member v set.now.members ≡ is_member v other.now.members) }
 {
+    if have_same_members(set, other) {
+        return Ok(Vec::new(alloc));
+    }
     let first = listed(alloc, set)?;
     let second = listed(alloc, other)?;
     numbers_of_one(alloc, &first, &second)
+}
+
+/// Whether two sets of one form have the same members.
+fn have_same_members(set: &VertexSet, other: &VertexSet) -> bool
+    ensures { result ≡ true → (v : ℕ) → is_member v set.now.members ≡ is_member v other.now.members }
+{
+    if let (Some(words), Some(others)) = (set.words(), other.words()) {
+        return words == others;
+    }
+    if let (Some(list), Some(others)) = (set.list(), other.list()) {
+        return list == others;
+    }
+    match (set.flags(), other.flags()) {
+        (Some(flags), Some(others)) => flags == others,
+        _ => false,
+    }
 }
 
 /// The members of a set, in a list. The only error is out of memory.

@@ -19,6 +19,7 @@ use crate::differences::end_differences;
 use crate::ends::recorded_end;
 use crate::rows::have_rows;
 use crate::run_record::RunRecord;
+use crate::vector_copies::copied;
 use edge_apply::Apply;
 use edge_fold::Scratch;
 use follow_engine::{
@@ -65,6 +66,13 @@ struct NamedDifferences {
     destinations: Vec<u32>,
 }
 
+impl NamedDifferences {
+    /// Whether nothing is named.
+    fn is_empty(&self) -> bool {
+        self.entries.is_empty() && self.sources.is_empty() && self.destinations.is_empty()
+    }
+}
+
 impl<'a> FormerRun<'a> {
     /// A run that is before the first apply of a record. The only error is out of memory.
     pub(crate) fn new(
@@ -75,11 +83,10 @@ impl<'a> FormerRun<'a> {
         ensures { IfOk result (λ r. (g : Digraph) → (arc_value run_record.now.graph).vertices ≡ g.vertices
             → AreSameBut edges.now g.edges (arc_value run_record.now.graph).edges → IsBeside (arc_value run_record.now.plan).functions g r) }
     {
-        let arrays = run_record.start.to_arrays(alloc)?;
         Ok(FormerRun {
             run_record,
             edges,
-            vectors: Vectors::new(alloc, arrays)?,
+            vectors: copied(alloc, &run_record.start)?,
             next: 0,
             candidates: None,
         })
@@ -138,7 +145,7 @@ impl<'a> FormerRun<'a> {
                 destinations: &named.destinations,
                 edges: self.edges,
             },
-            budget: budget_of(apply),
+            budget: budget_of(apply, &former, &named, self.edges),
         };
         let Some(changes) = follow(alloc, apply, &followed, marks, scratch)? else {
             return Ok(None);
@@ -255,8 +262,16 @@ fn stays_local(apply: &Apply<'_>) -> bool
 }
 
 /// How many edges may be gone over to follow a former apply: about half of those that the apply has from its sources, if these are
-/// a set, and half of all else.
-fn budget_of(apply: &Apply<'_>) -> usize {
+/// a set, and half of all else. If nothing that differs reaches a destination, none is gone over.
+fn budget_of(
+    apply: &Apply<'_>,
+    former: &Apply<'_>,
+    named: &NamedDifferences,
+    edges: &[(u32, u32)],
+) -> usize {
+    if named.is_empty() && !passes_one(apply, edges) && !passes_one(former, edges) {
+        return 0;
+    }
     match apply.from {
         Some(EndpointFilter::Members(set)) => set_budget(apply, set),
         _ => apply.flat.edge_count() / 2,
@@ -274,4 +289,22 @@ fn set_budget(apply: &Apply<'_>, sources: &VertexSet) -> usize {
         edges += apply.flat.out_degree(source) as usize;
     }
     edges / 2
+}
+
+/// Whether the first end of an apply may let the source of one of some edges through.
+fn passes_one(apply: &Apply<'_>, edges: &[(u32, u32)]) -> bool {
+    match apply.from {
+        Some(EndpointFilter::Members(set)) => has_source(set, edges),
+        _ => true,
+    }
+}
+
+/// Whether the source of one of some edges is a member of a set.
+fn has_source(set: &VertexSet, edges: &[(u32, u32)]) -> bool {
+    'edges: for edge in edges {
+        if set.contains(edge.0) {
+            return true;
+        }
+    }
+    false
 }

@@ -30,6 +30,7 @@ mod rows;
 mod run_record;
 #[cfg(test)]
 mod tests;
+mod vector_copies;
 
 pub use apply_record::ApplyRecord;
 pub use follower::Follower;

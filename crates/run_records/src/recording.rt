@@ -9,6 +9,7 @@ ghost use Rattle.run_records.specs.inside.Copies.{AreSameChanges};
 
 use crate::apply_record::ApplyRecord;
 use crate::ends::kept_set;
+use crate::vector_copies::copied;
 use edge_apply::Apply;
 use run_state::RunView;
 use runner::EdgeMap;
@@ -47,9 +48,8 @@ impl Recording {
         if room < needed {
             return Err(AllocError);
         }
-        let arrays = vectors.to_arrays(alloc)?;
         Ok(Recording {
-            start: Vectors::new(alloc, arrays)?,
+            start: copied(alloc, vectors)?,
             applies: Vec::new(alloc),
             room: room - needed,
         })

@@ -202,6 +202,24 @@ impl Graph {
         self.incoming.iter()
     }
 
+    /// The blocks that [`Graph::outgoing`] goes over, as a tree that finds one by its number in
+    /// logarithmic time. It takes constant time and no memory.
+    pub fn outgoing_tree(&self) -> &Tree<VertexBlock>
+        ensures blocks { AreBlocksOf (λ u. destinations_of u self.now.edges) result.now.entries }
+        ensures edges { edges_of (lists_of result.now.entries) ≡ self.now.edges }
+        ensures graph { IsDigraph self.now }
+    {
+        &self.outgoing
+    }
+
+    /// The blocks that [`Graph::incoming`] goes over, as [`Graph::outgoing_tree`] gives those of the
+    /// vertices that have out-edges.
+    pub fn incoming_tree(&self) -> &Tree<VertexBlock>
+        ensures blocks { AreBlocksOf (λ v. sources_of v self.now.edges) result.now.entries }
+    {
+        &self.incoming
+    }
+
     /// Whether the edge from `source` to `destination` is there. It takes logarithmic time and no
     /// memory.
     pub fn contains(&self, source: u32, destination: u32) -> bool

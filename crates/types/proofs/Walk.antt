@@ -20,7 +20,7 @@ use Rattle.initializer_types.specs.Checker.{CheckerTree, condition_in, declared_
 use Rattle.types.specs.inside.BlockMeaning.{BlockMeaning, For, If, IfElse, IsWalked, While, block_typed, inner_typed, noted, row_then, statement_typed}
 use Rattle.types.proofs.Sources.{for_loop_tree-block, statement_kind_tree-While, statement_kind_tree-If, statement_kind_tree-IfElse}
 
--- what goes on after a block
+-- the step after a block begins with the tree, the checker and the first fault that the block gives
 inner_then : {P Q A S R B : Type 0} (m : BlockMeaning P Q A S R) (c d : CheckerTree) (body : source.BlockTree) (b : R) (old new : Option Fault) (next : R × CheckerTree → WithFaults B)
     → outcome old (inner_typed m c body) ≡ ((b, d), new)
     → outcome old (block_typed m c body >>= λ x. next (x.0, in_scope x.1 c.scope)) ≡ outcome new (next (b, d))

@@ -446,10 +446,10 @@ impl Versions {
     }
 
     /// The ends of the edges in which the newest version may differ from an earlier one: those that the batches since then
-    /// name, ascending by source and then by destination, each once. It is `None` if there is no such version, if the
-    /// history was trimmed since it was made, if a batch since then asks for a number of vertices, or if these batches have
-    /// more than `most` entries in all. It takes the time of a walk over the entries of the history since then, and of a sort
-    /// of the entries of the batches.
+    /// name, ascending by source and then by destination, each once. It is `None` if there is no such version, if a trim
+    /// dropped one of these batches, if one of them asks for a number of vertices, or if they have more than `most` entries
+    /// in all. It takes the time of a walk over the entries of the history since then, and of a sort of the entries of the
+    /// batches.
     ///
     /// The only error is out of memory.
     pub fn edges_since(

@@ -166,8 +166,8 @@ impl<R: Drop> VersionRecords<R> {
         }
     }
 
-    /// Lets go what no run will follow after a commit of so many entries: the programs' last records, if more entries were committed
-    /// since the last run than a hundredth of the edges. It takes no memory.
+    /// Counts the entries of a commit, and drops the programs' last records if more entries were committed since the last run than a
+    /// hundredth of the edges: no run will follow these records. It takes no memory.
     pub fn after_commit(&mut self, versions: &Versions, entries: usize)
         ensures { MayLose self.old self.new }
     {
@@ -178,7 +178,7 @@ impl<R: Drop> VersionRecords<R> {
         }
     }
 
-    /// Lets the record of a version go if the version is no longer kept, after a release. It takes no memory.
+    /// Drops the record of a version after a release, if the version is no longer kept. It takes no memory.
     pub fn after_release(&mut self, versions: &Versions, version: u64)
         ensures { MayLose self.old self.new }
     {

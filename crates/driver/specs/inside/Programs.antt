@@ -31,7 +31,7 @@ pub record IsRecordOfProgram (plans : List CompiledPlan) (index : ℕ) (r : RunR
   pub plan : slice_get (map (λ c. arc_value c.plan) plans) index ≡ Some (arc_value r.plan)
   pub on : arc_value r.graph ≡ graph
 
--- the same record, and the same list of edges
+-- both are missing, or both have one run record and one list of edges
 abbrev pub AreSameFormer : Option (Predecessor RunRecord) → Option FormerRecord → Type 0
 AreSameFormer None None = Unit {0}
 AreSameFormer None (Some f) = ⊥

@@ -13,8 +13,8 @@ returns-then-found-neighbour-clause-below c =
     let xs = c.args.self.now in
     let middle : ℕ = l.low + (l.high - l.low) / 2 in
     cut_below c.args.neighbour c.args.from middle xs (omega arith)
-    (λ i ge lt in_list. omega (arith, rises_strictly 0 (keys_of xs) c.len-high.ensures.ascending i middle lt (omega (arith, keys_long xs)), c.neighbour-found.ensures))
-    (λ i ge in_list. omega (arith, rises 0 (keys_of xs) c.len-high.ensures.ascending middle i ge (omega (arith, in_list, keys_long xs)), c.neighbour-found.ensures))
+    (λ i ge lt in_list. omega (arith, rises_strictly 0 (keys_of xs) c.bracket-low.ensures.ascending i middle lt (omega (arith, keys_long xs)), c.neighbour-found.ensures))
+    (λ i ge in_list. omega (arith, rises 0 (keys_of xs) c.bracket-low.ensures.ascending middle i ge (omega (arith, in_list, keys_long xs)), c.neighbour-found.ensures))
 
 pub returns-then-found-neighbour-clause-above : goal.returns-then-found-neighbour-clause-above
 returns-then-found-neighbour-clause-above c =
@@ -22,8 +22,8 @@ returns-then-found-neighbour-clause-above c =
     let xs = c.args.self.now in
     let middle : ℕ = l.low + (l.high - l.low) / 2 in
     cut_above c.args.neighbour c.args.from (middle + 1) xs (omega arith)
-    (λ i ge lt in_list. omega (arith, rises 0 (keys_of xs) c.len-high.ensures.ascending i middle (omega arith) (omega (arith, keys_long xs)), c.neighbour-found.ensures))
-    (λ i ge in_list. omega (arith, rises_strictly 0 (keys_of xs) c.len-high.ensures.ascending middle i (omega arith) (omega (arith, in_list, keys_long xs)), c.neighbour-found.ensures))
+    (λ i ge lt in_list. omega (arith, rises 0 (keys_of xs) c.bracket-low.ensures.ascending i middle (omega arith) (omega (arith, keys_long xs)), c.neighbour-found.ensures))
+    (λ i ge in_list. omega (arith, rises_strictly 0 (keys_of xs) c.bracket-low.ensures.ascending middle i (omega arith) (omega (arith, in_list, keys_long xs)), c.neighbour-found.ensures))
 
 pub loop-low-preserved-then-found-neighbour-2 : goal.loop-low-preserved-then-found-neighbour-2
 loop-low-preserved-then-found-neighbour-2 c =
@@ -33,7 +33,7 @@ loop-low-preserved-then-found-neighbour-2 c =
       from = omega arith;
       order = omega arith;
       within = l.invariant.within;
-      below = λ i ge lt. omega (arith, rises 0 (keys_of c.args.self.now) c.len-high.ensures.ascending i middle (omega arith) (omega (arith, keys_long c.args.self.now)), c.neighbour-found.ensures);
+      below = λ i ge lt. omega (arith, rises 0 (keys_of c.args.self.now) c.bracket-low.ensures.ascending i middle (omega arith) (omega (arith, keys_long c.args.self.now)), c.neighbour-found.ensures);
       above = l.invariant.above;
     }
 
@@ -46,7 +46,7 @@ loop-low-preserved c =
       order = omega arith;
       within = omega arith;
       below = l.invariant.below;
-      above = λ i ge in_list. omega (arith, rises 0 (keys_of c.args.self.now) c.len-high.ensures.ascending middle i ge (omega (arith, in_list, keys_long c.args.self.now)), c.neighbour-found.ensures);
+      above = λ i ge in_list. omega (arith, rises 0 (keys_of c.args.self.now) c.bracket-low.ensures.ascending middle i ge (omega (arith, in_list, keys_long c.args.self.now)), c.neighbour-found.ensures);
     }
 
 pub returns-clause-below : goal.returns-clause-below
