@@ -25,7 +25,7 @@ pub more_instructions : (p : ScheduledProgram) (g : Digraph) (turns m n : ℕ) �
 more_instructions p g turns m n = steps_more p.tree (graph_value g) (plan_of p.tree p.schedule) m n (first_configuration (initial_state p.tree (graph_value g) turns))
 
 -- a job that is left alone
-stays_there : (job : WorldJob) → GoesOnAlone job 0 job
+pub stays_there : (job : WorldJob) → GoesOnAlone job 0 job
 stays_there job =
     let same : job.count ≡ job.count + 0 = omega arith in
     record { program = refl; graph = refl; turns = refl; stands = ap (λ (n : ℕ). index_after job.program job.graph job.turns n) same }
@@ -41,7 +41,7 @@ steps_once job (Ended s end) is = record {
 }
 
 -- first so many instructions, and then so many more
-goes_on_twice : (old mid new : WorldJob) (m n : ℕ) → GoesOnAlone old m mid → GoesOnAlone mid n new → GoesOnAlone old (m + n) new
+pub goes_on_twice : (old mid new : WorldJob) (m n : ℕ) → GoesOnAlone old m mid → GoesOnAlone mid n new → GoesOnAlone old (m + n) new
 goes_on_twice old mid new m n first second =
     let sum : old.count + m + n ≡ old.count + (m + n) = omega arith in
     record {

@@ -10,7 +10,7 @@ use Rattle.flat_snapshot.specs.Digraph.{Digraph}
 use Rattle.plans.specs.declared.instruction.Instruction.{Instruction}
 use Rattle.plans.specs.declared.plan.Plan.{Plan}
 use Rattle.plans.specs.Operation.{ArePairwise}
-use Rattle.plans.specs.Machine.{Configuration, At, Ended, first_configuration, step}
+use Rattle.plans.specs.Machine.{Configuration, At, Ended, first_configuration, step, steps}
 use Rattle.plans.specs.Plan.{plan_of}
 use Rattle.plans.specs.PlanOf.{IsPlan}
 use Rattle.plans.specs.Reducing.{AppliesReduce}
@@ -19,7 +19,7 @@ use Rattle.run_state.specs.State.{graph_value}
 use Rattle.runner.specs.Job.{stand_of}
 use Rattle.runner.specs.Resting.{JobValue, job_value, kept_at, resting}
 use Rattle.runner.proofs.Partners.{HasPartner, partner_at, none_at}
-use Rattle.runner.proofs.Resting.{step_resting}
+use Rattle.runner.proofs.Resting.{steps_resting}
 use Rattle.typed_tree.specs.ProgramTree.{ProgramTree}
 use Rattle.version_list.specs.declared.step.Step.{Step}
 use Rattle.version_list.specs.declared.step.Reply.{Reply}
@@ -34,6 +34,7 @@ use Rattle.session.specs.World.{ScheduledProgram, WorldJob, World, StepAnswer, i
 use Rattle.session.specs.World.{step_answer}
 use Rattle.session.specs.Standing.{SessionValue, IsPlanOf, StandsAt, IsAt, Takes}
 use Rattle.session.specs.inside.Attempts.{StepsVersions, Attempts, told_of}
+use Rattle.session.specs.Laws.{GoesOnAlone}
 use Rattle.session.proofs.Alone.{more_instructions, steps_once}
 
 -- lists that agree index by index are as long as each other
@@ -57,7 +58,7 @@ pairwise_turned R [] (y ∷ ys) all = absurd all
 pairwise_turned R (x ∷ xs) [] all = absurd all
 pairwise_turned R (x ∷ xs) (y ∷ ys) all = (all.0, pairwise_turned R xs ys all.1)
 
-numbered_partner : {A B : Type 0} (R : A → B → Type 0) (xs : List A) (ys : List B) (number : ℕ) (x : A) → ArePairwise R xs ys → nth_from_one xs number ≡ Some x
+pub numbered_partner : {A B : Type 0} (R : A → B → Type 0) (xs : List A) (ys : List B) (number : ℕ) (x : A) → ArePairwise R xs ys → nth_from_one xs number ≡ Some x
     → HasPartner R x (nth_from_one ys number)
 numbered_partner R xs ys zero x all is = absurd (none_is x is)
   where
@@ -65,7 +66,7 @@ numbered_partner R xs ys zero x all is = absurd (none_is x is)
     none_is x e = cc
 numbered_partner R xs ys (suc index) x all is = partner_at R xs ys index x all is
 
-numbered_none : {A B : Type 0} (R : A → B → Type 0) (xs : List A) (ys : List B) (number : ℕ) → ArePairwise R xs ys → nth_from_one xs number ≡ None → nth_from_one ys number ≡ None
+pub numbered_none : {A B : Type 0} (R : A → B → Type 0) (xs : List A) (ys : List B) (number : ℕ) → ArePairwise R xs ys → nth_from_one xs number ≡ None → nth_from_one ys number ≡ None
 numbered_none R xs ys zero all is = refl
 numbered_none R xs ys (suc index) all is = none_at R xs ys index all is
 
@@ -169,39 +170,34 @@ pub stand_resting : (is : List Instruction) (c : Configuration) → stand_of (re
 stand_resting is (At index loops s) = stand_kept (slice_get is index) index loops s
 stand_resting is (Ended s end) = refl
 
--- one instruction from where a job stands leads to where it stands after its step
-next_index : (job : WorldJob) → step job.program.tree (graph_value job.graph) (plan_of job.program.tree job.program.schedule) (job_index job) ≡ job_index (after_its_step job)
-next_index job = sym (more_instructions job.program job.graph job.turns job.count 1) ∙ sym (steps_once job (job_index job) refl).stands
+-- the value of a job after so many steps more of its program's machine
+abbrev pub IsLaterOf : (n : ℕ) → WorldJob → JobValue → JobValue → Type 0
+IsLaterOf n job old new = new ≡ job_value old.plan old.graph old.turns (steps job.program.tree (graph_value old.graph) (plan_of job.program.tree job.program.schedule) n old.stands)
 
-stands_next : (old new : JobValue) (job : WorldJob) → StandsAt old job → IsNextOf old new → new ≡ job_value old.plan job.graph job.turns (job_index (after_its_step job))
-stands_next old new job at next =
+-- a job that has gone on stands where the world's job does that has gone on as far
+pub stands_later : (n : ℕ) (old new : JobValue) (job later : WorldJob) → StandsAt old job → GoesOnAlone job n later → IsLaterOf n job old new → StandsAt new later
+stands_later n old new job later at goes is =
     let p = job.program.tree in
     let s = job.program.schedule in
+    let rests = resting old.plan.instructions.items in
     let graph : old.graph ≡ job.graph = ap (λ (v : JobValue). v.graph) at.is in
     let turns : old.turns ≡ job.turns = ap (λ (v : JobValue). v.turns) at.is in
-    let stands : old.stands ≡ resting old.plan.instructions.items (job_index job) = ap (λ (v : JobValue). v.stands) at.is in
-    next p s at.plan.planned at.plan.reducing
-    ∙ ap (λ (c : Configuration). job_value old.plan old.graph old.turns (step p (graph_value old.graph) (plan_of p s) c)) stands
-    ∙ ap (λ (c : Configuration). job_value old.plan old.graph old.turns c) (step_resting p (graph_value old.graph) old.plan s at.plan.planned (job_index job))
-    ∙ ap (λ (g : Digraph). job_value old.plan g old.turns (step p (graph_value g) (plan_of p s) (job_index job))) graph
-    ∙ ap (λ (n : ℕ). job_value old.plan job.graph n (step p (graph_value job.graph) (plan_of p s) (job_index job))) turns
-    ∙ ap (λ (c : Configuration). job_value old.plan job.graph job.turns c) (next_index job)
-
-stands_after : (old new : JobValue) (job : WorldJob) → StandsAt old job → IsNextOf old new → StandsAt new (after_its_step job)
-stands_after old new job at next =
-    let after = after_its_step job in
-    let once = steps_once job (job_index job) refl in
-    let is = stands_next old new job at next in
+    let stands : old.stands ≡ rests (job_index job) = ap (λ (v : JobValue). v.stands) at.is in
     let same : new.plan ≡ old.plan = ap (λ (v : JobValue). v.plan) is in
+    let there : new ≡ job_value old.plan later.graph later.turns (job_index later) =
+    is ∙ ap (λ (c : Configuration). job_value old.plan old.graph old.turns (steps p (graph_value old.graph) (plan_of p s) n c)) stands
+    ∙ ap (λ (c : Configuration). record { plan = old.plan; graph = old.graph; turns = old.turns; stands = c }) (steps_resting p (graph_value old.graph) old.plan s at.plan.planned n (job_index job))
+    ∙ ap (λ (g : Digraph). job_value old.plan g old.turns (steps p (graph_value g) (plan_of p s) n (job_index job))) graph
+    ∙ ap (λ (k : ℕ). job_value old.plan job.graph k (steps p (graph_value job.graph) (plan_of p s) n (job_index job))) turns
+    ∙ ap (λ (c : Configuration). job_value old.plan job.graph job.turns c) (sym (more_instructions job.program job.graph job.turns job.count n) ∙ sym goes.stands)
+    ∙ ap (λ (g : Digraph). job_value old.plan g job.turns (job_index later)) (sym goes.graph)
+    ∙ ap (λ (k : ℕ). job_value old.plan later.graph k (job_index later)) (sym goes.turns) in
     record {
-      plan = subst (λ (q : Plan). IsPlanOf q after.program) (sym same) (subst (λ (p : ScheduledProgram). IsPlanOf old.plan p) (sym once.program) at.plan);
-      is =
-          is ∙ ap (λ (q : Plan). job_value q job.graph job.turns (job_index after)) (sym same)
-          ∙ ap (λ (g : Digraph). job_value new.plan g job.turns (job_index after)) (sym once.graph)
-          ∙ ap (λ (n : ℕ). job_value new.plan after.graph n (job_index after)) (sym once.turns);
+      plan = subst (λ (q : Plan). IsPlanOf q later.program) (sym same) (subst (λ (r : ScheduledProgram). IsPlanOf old.plan r) (sym goes.program) at.plan);
+      is = there ∙ ap (λ (q : Plan). job_value q later.graph later.turns (job_index later)) (sym same);
     }
 
-pairwise_with : {A B : Type 0} (R : A → B → Type 0) (xs : List A) (ys : List B) (number : ℕ) (x : A) (y : B) → ArePairwise R xs ys → R x y
+pub pairwise_with : {A B : Type 0} (R : A → B → Type 0) (xs : List A) (ys : List B) (number : ℕ) (x : A) (y : B) → ArePairwise R xs ys → R x y
     → ArePairwise R (with_numbered xs number x) (with_numbered ys number y)
 pairwise_with R xs ys zero x y all one = all
 pairwise_with R xs ys (suc index) x y all one = pairwise_set R xs ys index x y all one
@@ -211,13 +207,15 @@ pub steps_job : (programs : List ScheduledProgram) (w : World) (old new : Sessio
 steps_job programs w old new number j k at found next after =
     let partner = numbered_partner StandsAt old.jobs w.jobs number j at.jobs found in
     let job = partner.partner in
-    let is = stands_next j k job partner.related next in
+    let stepped_job : StandsAt k (after_its_step job) =
+    stands_later 1 j k job (after_its_step job) partner.related (steps_once job (job_index job) refl)
+    (next job.program.tree job.program.schedule partner.related.plan.planned partner.related.plan.reducing) in
     let stepped : Takes programs (job_step w number (Some job)) (Stands (stand_of k.stands)) new = record {
-      reply_is = ap (λ (v : JobValue). Stands (stand_of v.stands)) is ∙ ap Stands (stand_resting j.plan.instructions.items (job_index (after_its_step job)));
+      reply_is = ap (λ (v : JobValue). Stands (stand_of v.stands)) stepped_job.is ∙ ap Stands (stand_resting k.plan.instructions.items (job_index (after_its_step job)));
       stands = subst (IsAt programs (job_step w number (Some job)).world) (sym after) (record {
         plans = at.plans;
         versions = at.versions;
-        jobs = pairwise_with StandsAt old.jobs w.jobs number k (after_its_step job) at.jobs (stands_after j k job partner.related next);
+        jobs = pairwise_with StandsAt old.jobs w.jobs number k (after_its_step job) at.jobs stepped_job;
       });
     } in
     subst (λ (o : Option WorldJob). Takes programs (job_step w number o) (Stands (stand_of k.stands)) new) (sym partner.is_there) stepped

@@ -8,3 +8,5 @@ pub mod Versions
 pub mod Flats
 pub mod OwnRuns
 pub mod Running
+pub mod Finishing
+pub mod Recording

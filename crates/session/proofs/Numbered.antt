@@ -6,6 +6,9 @@ use Rattle.session.specs.World.{nth_from_one, with_numbered}
 none_is : {A : Type 0} (x : A) → None ≡ Some x → ⊥
 none_is x e = cc
 
+some_is : {A : Type 0} (x y : A) → Some y ≡ Some x → x ≡ y
+some_is x y is = cc
+
 get_set_same : {A : Type 0} (xs : List A) (i : ℕ) (old x : A) → slice_get xs i ≡ Some old → slice_get (slice_set xs i x) i ≡ Some x
 get_set_same [] i old x is = absurd (none_is old is)
 get_set_same (y ∷ ys) zero old x is = refl
@@ -40,6 +43,16 @@ set_length [] i x = refl
 set_length (y ∷ ys) zero x = refl
 set_length (y ∷ ys) (suc i) x = ap suc (set_length ys i x)
 
+set_same : {A : Type 0} (xs : List A) (i : ℕ) (x : A) → slice_get xs i ≡ Some x → slice_set xs i x ≡ xs
+set_same [] i x is = refl
+set_same (y ∷ ys) zero x is = ap (λ z. z ∷ ys) (some_is x y is)
+set_same (y ∷ ys) (suc i) x is = ap (λ zs. y ∷ zs) (set_same ys i x is)
+
+set_again : {A : Type 0} (xs : List A) (i : ℕ) (x y : A) → slice_set (slice_set xs i x) i y ≡ slice_set xs i y
+set_again [] i x y = refl
+set_again (z ∷ zs) zero x y = refl
+set_again (z ∷ zs) (suc i) x y = ap (λ ws. z ∷ ws) (set_again zs i x y)
+
 -- the item at a number is the one that was put there last
 pub numbered_same : {A : Type 0} (xs : List A) (number : ℕ) (old x : A) → nth_from_one xs number ≡ Some old → nth_from_one (with_numbered xs number x) number ≡ Some x
 numbered_same xs zero old x is = absurd (none_is old is)
@@ -69,3 +82,13 @@ with_numbered_twice xs (suc index) (suc other) x y apart = set_set xs index othe
 pub with_numbered_length : {A : Type 0} (xs : List A) (number : ℕ) (x : A) → length (with_numbered xs number x) ≡ length xs
 with_numbered_length xs zero x = refl
 with_numbered_length xs (suc index) x = set_length xs index x
+
+-- an item that is there already changes nothing
+pub with_numbered_same : {A : Type 0} (xs : List A) (number : ℕ) (x : A) → nth_from_one xs number ≡ Some x → with_numbered xs number x ≡ xs
+with_numbered_same xs zero x is = refl
+with_numbered_same xs (suc index) x is = set_same xs index x is
+
+-- of two items at one number the last one stays
+pub with_numbered_again : {A : Type 0} (xs : List A) (number : ℕ) (x y : A) → with_numbered (with_numbered xs number x) number y ≡ with_numbered xs number y
+with_numbered_again xs zero x y = refl
+with_numbered_again xs (suc index) x y = set_again xs index x y

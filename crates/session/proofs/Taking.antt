@@ -2,6 +2,8 @@
 use Rattle.std.proofs.Common.{◌≡◌, ℕ, zero, suc, ◌+◌, ◌<◌, ◌≤◌, List, [], ◌∷◌, ◌++◌, Option, Some, None, map, length, get_or, slice_get, refl, sym, ap, ◌∙◌, subst, arith}
 use Rattle.std.specs.Prelude.{slice_set}
 use Rattle.std.specs.Option.{option_map}
+use Rattle.std.proofs.Math.Seq.{map-set_same}
+use Rattle.std.proofs.lemmas.List.{length-map, map-set}
 use Rattle.std.proofs.lemmas.Option.{slice_get_past, slice_get_read, slice_get-map}
 use Rattle.flat_snapshot.specs.Digraph.{Digraph}
 use Rattle.plans.specs.declared.plan.Plan.{Plan}
@@ -9,6 +11,7 @@ use Rattle.runner.specs.declared.job.Stand.{Stand}
 use Rattle.runner.specs.Job.{stand_of}
 use Rattle.runner.specs.Resting.{JobValue}
 use Rattle.version_list.specs.Machine.{State, version_graph, ticket_version, ticket_graph}
+use Rattle.session.specs.declared.started_job.StartedJob.{StartedJob}
 use Rattle.session.specs.declared.step.SessionReply.TheVariants.{Job, Stands}
 use Rattle.session.specs.World.{ScheduledProgram, World, nth_from_one, with_numbered, step_refused, start, job_step}
 use Rattle.session.specs.Standing.{SessionValue, IsAt, Takes}
@@ -26,7 +29,7 @@ numbered_map f xs zero = refl
 numbered_map f xs (suc index) = slice_get-map f xs index
 
 -- the plan of a program, among plans that are shared
-plan_found : {A : Type 0} (plan_in : A → Plan) (plans : List Plan) (shared lent : List A) (program : ℕ) (found : Option A) → plans ≡ map plan_in shared → lent ≡ shared
+pub plan_found : {A : Type 0} (plan_in : A → Plan) (plans : List Plan) (shared lent : List A) (program : ℕ) (found : Option A) → plans ≡ map plan_in shared → lent ≡ shared
     → found ≡ nth_from_one lent program
     → nth_from_one plans program ≡ option_map plan_in found
 plan_found plan_in plans shared lent program found are lies is =
@@ -69,19 +72,52 @@ starts_there plan_in shared lent programs w old new s program ticket version tur
     (starts programs w old new program turns (plan_in plan) graph (ticket_graph w.versions ticket) j at (plan_found plan_in old.plans shared lent program (Some plan) are lies is)
     (graph_there programs w old s ticket (Some version) at here held ∙ ap Some (sym graph_is)) (new_of own (plan_in plan) flat graph turns j own_is flat_is new_is) after)
 
-pub no_job_there : (programs : List ScheduledProgram) (w : World) (old : SessionValue) (jobs : List JobValue) (number index : ℕ) → IsAt programs w old → old.jobs ≡ jobs → number ≡ index + 1
-    → length jobs ≤ index
-    → job_step w number (nth_from_one w.jobs number) ≡ step_refused w 413
-no_job_there programs w old jobs number index at are is past =
-    no_job programs w old number at (ap (λ (js : List JobValue). nth_from_one js number) are ∙ numbered_at jobs number index is ∙ slice_get_past jobs index past)
+-- the jobs of a session, without where they come from
+abbrev pub jobs_of : List StartedJob → List JobValue
+jobs_of started = map (λ (x : StartedJob). x.job) started
 
-pub steps_job_there : (programs : List ScheduledProgram) (w : World) (old new : SessionValue) (jobs : List JobValue) (number index : ℕ) (j k : JobValue) (stand : Stand) → IsAt programs w old
-    → old.jobs ≡ jobs → number ≡ index + 1
-    → index < length jobs → ((d : JobValue) → j ≡ get_or jobs index d) → IsNextOf j k → stand ≡ stand_of k.stands → new ≡ record old { jobs = slice_set jobs index k }
+job_found : (started : List StartedJob) (index : ℕ) (x : StartedJob) → index < length started → ((d : StartedJob) → x ≡ get_or started index d) → slice_get (jobs_of started) index ≡ Some x.job
+job_found started index x within there =
+    slice_get-map (λ (y : StartedJob). y.job) started index ∙ ap (option_map (λ (y : StartedJob). y.job)) (slice_get_read started (length started) index x refl within (there x))
+
+pub job_numbered : (old : SessionValue) (started : List StartedJob) (number index : ℕ) (x : StartedJob) → old.jobs ≡ jobs_of started → number ≡ index + 1
+    → index < length started → ((d : StartedJob) → x ≡ get_or started index d) → nth_from_one old.jobs number ≡ Some x.job
+job_numbered old started number index x are is within there =
+    ap (λ (js : List JobValue). nth_from_one js number) are ∙ numbered_at (jobs_of started) number index is ∙ job_found started index x within there
+
+pub none_numbered : (old : SessionValue) (started : List StartedJob) (number index : ℕ) → old.jobs ≡ jobs_of started → number ≡ index + 1 → length started ≤ index
+    → nth_from_one old.jobs number ≡ None
+none_numbered old started number index are is past =
+    let past_jobs : length (jobs_of started) ≤ index = omega (arith, past, length-map started (λ (x : StartedJob). x.job)) in
+    ap (λ (js : List JobValue). nth_from_one js number) are ∙ numbered_at (jobs_of started) number index is ∙ slice_get_past (jobs_of started) index past_jobs
+
+-- the session with another job at an index
+pub with_job_there : (old new : SessionValue) (started : List StartedJob) (number index : ℕ) (x : StartedJob) → old.jobs ≡ jobs_of started → number ≡ index + 1
+    → new ≡ record old { jobs = jobs_of (slice_set started index x) } → new ≡ record old { jobs = with_numbered old.jobs number x.job }
+with_job_there old new started number index x are is after =
+    let put : jobs_of (slice_set started index x) ≡ with_numbered old.jobs number x.job =
+    map-set (λ (y : StartedJob). y.job) started index x
+    ∙ sym (ap (λ (js : List JobValue). with_numbered js number x.job) are ∙ with_numbered_at (jobs_of started) number index x.job is) in
+    after ∙ ap (λ (js : List JobValue). record old { jobs = js }) put
+
+pub no_job_there : (programs : List ScheduledProgram) (w : World) (old : SessionValue) (started : List StartedJob) (number index : ℕ) → IsAt programs w old → old.jobs ≡ jobs_of started
+    → number ≡ index + 1 → length started ≤ index
+    → job_step w number (nth_from_one w.jobs number) ≡ step_refused w 413
+no_job_there programs w old started number index at are is past = no_job programs w old number at (none_numbered old started number index are is past)
+
+pub steps_job_there : (programs : List ScheduledProgram) (w : World) (old new : SessionValue) (started : List StartedJob) (number index : ℕ) (x y : StartedJob) (stand : Stand) → IsAt programs w old
+    → old.jobs ≡ jobs_of started → number ≡ index + 1
+    → index < length started → ((d : StartedJob) → x ≡ get_or started index d) → IsNextOf x.job y.job → stand ≡ stand_of y.job.stands
+    → new ≡ record old { jobs = jobs_of (slice_set started index y) }
     → Takes programs (job_step w number (nth_from_one w.jobs number)) (Stands stand) new
-steps_job_there programs w old new jobs number index j k stand at are is within there next stands after =
-    let found : nth_from_one old.jobs number ≡ Some j = ap (λ (js : List JobValue). nth_from_one js number) are ∙ numbered_at jobs number index is
-    ∙ slice_get_read jobs (length jobs) index j refl within (there j) in
-    let put : slice_set jobs index k ≡ with_numbered old.jobs number k = sym (ap (λ (js : List JobValue). with_numbered js number k) are ∙ with_numbered_at jobs number index k is) in
+steps_job_there programs w old new started number index x y stand at are is within there next stands after =
     subst (λ (st : Stand). Takes programs (job_step w number (nth_from_one w.jobs number)) (Stands st) new) (sym stands)
-    (steps_job programs w old new number j k at found next (after ∙ ap (λ (js : List JobValue). record old { jobs = js }) put))
+    (steps_job programs w old new number x.job y.job at (job_numbered old started number index x are is within there) next (with_job_there old new started number index y are is after))
+
+-- a job that is not stepped leaves the session as it was
+pub unstepped_there : (old new : SessionValue) (started : List StartedJob) (index : ℕ) (x y : StartedJob) → old.jobs ≡ jobs_of started → ((d : StartedJob) → x ≡ get_or started index d)
+    → y.job ≡ x.job → new ≡ record old { jobs = jobs_of (slice_set started index y) } → new ≡ old
+unstepped_there old new started index x y are there same after =
+    let put : jobs_of (slice_set started index y) ≡ jobs_of started =
+    map-set_same (λ (z : StartedJob). z.job) started index y x (same ∙ ap (λ (z : StartedJob). z.job) (there x)) in
+    after ∙ ap (λ (js : List JobValue). record old { jobs = js }) (put ∙ sym are)

@@ -18,6 +18,7 @@
 mod error;
 mod laws;
 mod session;
+mod started_job;
 mod step;
 
 pub use error::SessionError;

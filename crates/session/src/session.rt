@@ -7,26 +7,30 @@ ghost use Rattle.version_list.specs.declared.step.Step.TheVariants as versions;
 ghost use Rattle.session.specs.declared.error.SessionError.TheVariants.{NoMemory};
 ghost use Rattle.session.specs.declared.step.SessionStep.TheVariants.{Start, JobStep};
 ghost use Rattle.session.specs.World.{ScheduledProgram, World, step_answer, first_world, nth_from_one};
-ghost use Rattle.session.specs.Standing.{IsAt, IsPlanOf, Opens, Runs, Takes};
-ghost use Rattle.session.specs.inside.Attempts.{Attempts, StepsVersions, told_of};
+ghost use Rattle.session.specs.Standing.{Finishes, IsAt, IsPlanOf, Opens, Runs, Takes};
+ghost use Rattle.session.specs.inside.Attempts.{Attempts, FinishesOrNot, StepsVersions, told_of};
 
 use crate::error::SessionError;
+use crate::started_job::{JobOrigin, StartedJob};
 use crate::step::{SessionReply, SessionStep};
 use plans::Plan;
-use runner::{Job, SerialApplier};
+use run_records::RunRecord;
+use runner::{Job, SerialApplier, Stand};
 use std::alloc::Global;
 use std::marker::Model;
 use std::sync::Arc;
 use tree_batch::Batch;
 use version_flats::VersionFlats;
 use version_list::{Reply, Ticket, Versions, Which};
+use version_records::VersionRecords;
 
 /// The versions of a graph, and jobs that run programs on those that are held.
 pub struct Session {
     plans: Vec<Arc<Plan>>,
     versions: Versions,
     flats: VersionFlats,
-    jobs: Vec<Job>,
+    jobs: Vec<StartedJob>,
+    records: VersionRecords<RunRecord>,
     alone: SerialApplier,
 }
 
@@ -38,6 +42,7 @@ impl Drop for Session {
             versions: _,
             flats: _,
             jobs: _,
+            records: _,
             alone: _,
         } = self;
     }
@@ -57,12 +62,12 @@ impl Model for Session {
     ghost view = { λ s. record {
       plans = map arc_value s.plans.items;
       versions = s.versions.state;
-      jobs = s.jobs.items;
+      jobs = map (λ j. j.job) s.jobs.items;
     } };
 
-    ghost use Rattle.version_flats.specs.VersionFlats.{AreOf};
+    ghost use Rattle.session.specs.inside.Records.{AreOfVersions};
 
-    ghost invariant = { λ s. AreOf s.versions.state s.flats };
+    ghost invariant = { λ s. AreOfVersions (map arc_value s.plans.items) s.versions.state s.flats s.records s.jobs.items };
 }
 
 impl Session {
@@ -87,6 +92,7 @@ impl Session {
             versions,
             flats: VersionFlats::new(alloc),
             jobs: Vec::new(alloc),
+            records: VersionRecords::new(alloc),
             alone: SerialApplier::new(alloc),
         })
     }
@@ -110,6 +116,27 @@ impl Session {
         ensures only_memory { IfErr result (λ e. e ≡ NoMemory) }
     {
         told(self.attempt(alloc, step))
+    }
+
+    /// Steps a job until it has ended, and answers as the last of these steps is answered: how the job has ended, or
+    /// `Of(Refused(413))` where no job has the number, which changes nothing. A job that has ended stays as it is.
+    ///
+    /// A job that has done nothing follows the record of a former run of its program, if there is one on a version of which few
+    /// edges differ. It does the same instructions, and may take less time.
+    ///
+    /// The only error is `NoMemory`, after which the session is where it is after some number of these steps.
+    ///
+    /// # Example
+    ///
+    /// ```
+    /// session.finish(alloc, job)?;
+    /// ```
+    pub fn finish(&mut self, alloc: Global, job: u64) -> Result<SessionReply, SessionError>
+        ensures finishes { (programs : List ScheduledProgram) (w : World) → IsAt programs w self.old
+            → Finishes programs w job self.old result self.new }
+        ensures only_memory { IfErr result (λ e. e ≡ NoMemory) }
+    {
+        told(self.finish_job(alloc, job))
     }
 
     /// Takes steps one after another, and answers what each is answered. A step that is refused changes nothing, and the next
@@ -137,7 +164,7 @@ impl Session {
     pub fn job(&self, number: u64) -> Option<&Job>
         ensures { option_copied result ≡ nth_from_one self.now.jobs number }
     {
-        numbered_in(&self.jobs, number)
+        Some(&numbered_in(&self.jobs, number)?.job)
     }
 
     /// Takes a step; a refusal is an error, and changes nothing.
@@ -163,8 +190,10 @@ impl Session {
         ensures { StepsVersions self.old (versions.Commit batch) result self.new }
     {
         let (before, _) = self.versions.newest();
+        let entries = batch.len();
         let number = self.versions.commit(alloc, batch)?;
         self.flats.let_go(&self.versions, before);
+        self.records.after_commit(&self.versions, entries);
         Ok(SessionReply::Of(Reply::Version(number)))
     }
 
@@ -186,6 +215,7 @@ impl Session {
         };
         self.versions.release(ticket)?;
         self.flats.let_go(&self.versions, version);
+        self.records.after_release(&self.versions, version);
         Ok(SessionReply::Of(Reply::Released))
     }
 
@@ -209,7 +239,8 @@ impl Session {
         };
         let flat = self.flats.flat(alloc, version, graph)?;
         let job = Job::new(alloc, plan.clone()?, flat, turns)?;
-        self.jobs.push(job)?;
+        let origin = Some(JobOrigin { program, version });
+        self.jobs.push(StartedJob { origin, job })?;
         Ok(SessionReply::Job(self.jobs.len() as u64))
     }
 
@@ -222,11 +253,26 @@ impl Session {
         let Some(index) = index_of(number) else {
             return Err(SessionError::NoJob);
         };
-        let Some(job) = self.jobs.get_mut(index) else {
+        let Some(started) = self.jobs.get_mut(index) else {
             return Err(SessionError::NoJob);
         };
-        let stand = job.step(alloc, &mut self.alone)?;
+        let stand = started.step(alloc, &mut self.alone)?;
         Ok(SessionReply::Stands(stand))
+    }
+
+    /// Steps a job until it has ended, and tells how it has ended; a refusal is an error.
+    fn finish_job(&mut self, alloc: Global, number: u64) -> Result<SessionReply, SessionError>
+        ensures { (programs : List ScheduledProgram) (w : World) → IsAt programs w self.old
+            → FinishesOrNot programs w number self.old result self.new }
+    {
+        let Some(index) = index_of(number) else {
+            return Err(SessionError::NoJob);
+        };
+        let Some(started) = self.jobs.get_mut(index) else {
+            return Err(SessionError::NoJob);
+        };
+        let end = started.finish(alloc, &self.versions, &mut self.records, &mut self.alone)?;
+        Ok(SessionReply::Stands(Stand::Ended(end)))
     }
 }
 

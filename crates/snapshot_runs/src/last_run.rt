@@ -1,21 +1,21 @@
 //! The last run that has a record, and a run beside that record.
-ghost use Rattle.std.specs.Prelude.{◌≡◌, ◌≤◌, Err, IfOk, IfErr, IfSome, OnErr, length};
+ghost use Rattle.std.specs.Prelude.{◌≡◌, ◌≤◌, Err, IfOk, IfErr, IfSome, MatchBool, OnErr, length, ⊤};
 ghost use Rattle.std.specs.Arc.{arc_value};
 ghost use Rattle.shared_graph.specs.Histories.{batches_of, fold_of_first, steps_of, state_at, IsNewest, IsVersionOf, Shows};
 ghost use Rattle.snapshot_runs.specs.declared.error.LatestRunError.TheVariants.{BadWorkers};
 ghost use Rattle.snapshot_runs.specs.Outcome.{IsOutcomeOn, Leaves};
 ghost use Rattle.snapshot_runs.specs.inside.Beside.{AreAlikeBut};
-ghost use Rattle.snapshot_runs.specs.inside.Recorded.{IsRecordedRun};
+ghost use Rattle.snapshot_runs.specs.inside.Recorded.{IsRecordedOn, IsRecordedRun};
 ghost use Rattle.version_list.specs.Machine.{opened};
 ghost use Rattle.version_list.specs.Timeline.{IsLegal};
 
 use crate::error::LatestRunError;
-use crate::recorded::flat_of;
+use crate::recorded::{flat_of, run_first_held};
 use crew::{Gate, Workers};
 use flat_snapshot::Flat;
 use plans::Plan;
 use run_records::{FormerRecord, RecordedRun, RunRecord, run_with_record};
-use shared_graph::{LatestError, Naming, Reader, Snapshot, Token};
+use shared_graph::{Held, LatestError, Naming, Reader, Snapshot, Token};
 use std::alloc::{AllocError, Global};
 use std::sync::Arc;
 use std::thread::Threads;
@@ -79,6 +79,33 @@ impl<J: Naming> LastRun<J> {
         let graph = flat_of(alloc, &snapshot.graph)?;
         let run = self.run_beside(workers, alloc, &graph, turns, &edges)?;
         Ok((snapshot.number, run))
+    }
+
+    /// Runs the plan on a version that is held, beside the record if that is of this version. The only error is out of memory.
+    pub(crate) fn run_held_again<R: Threads + Sync, G: Gate + Sync>(
+        &self,
+        workers: &Workers<'_, R, G>,
+        alloc: Global,
+        held: &Held<J>,
+        turns: u64,
+    ) -> Result<RecordedRun, AllocError>
+        ensures { IfOk result (IsRecordedOn (arc_value self.now.run_record.plan) held.now.graph turns) }
+    {
+        if self.is_on(held) {
+            let no_edges = Some(Vec::new(alloc));
+            self.run_beside(workers, alloc, self.run_record.graph(), turns, &no_edges)
+        } else {
+            run_first_held(workers, alloc, self.run_record.plan(), held, turns)
+        }
+    }
+
+    // Whether the run was on the version that is held. Of the two histories one begins the other, so a number is that of one
+    // version in both.
+    fn is_on(&self, held: &Held<J>) -> bool
+        ensures { MatchBool result (arc_value self.now.run_record.graph ≡ held.now.graph) ⊤ }
+    {
+        self.history.begins(&held.history());
+        self.version == held.snapshot().number
     }
 
     // The newest version, and the edges in which it may differ from that of this run, if they are known.

@@ -9,6 +9,7 @@
 //! [`run_latest_after`] is [`run_latest`] for a caller who runs a plan again and again: [`Runs`] keep the record of the last run, and
 //! the next one follows it if few edges differ (`run_records`). The contract is the same. The record belongs to a history that the
 //! reader of that run showed, which is a beginning of all longer ones, so each reader of the graph may run next.
+//! [`run_held_after`] is [`run_held`] with the same [`Runs`]: a run on a held version follows the record if that is of this version.
 //!
 //! It depends on `run_records` and `shared_graph`, and uses nothing of them but their public contracts.
 #![tactic(auto)]
@@ -20,5 +21,5 @@ mod runs;
 mod snapshot_run;
 
 pub use error::LatestRunError;
-pub use runs::{Runs, run_latest_after};
+pub use runs::{Runs, run_held_after, run_latest_after};
 pub use snapshot_run::{run_held, run_latest};

@@ -1,10 +1,10 @@
-//! The first of some runs that are recorded.
+//! The first of some runs that are recorded, on the newest version or on one that is held.
 ghost use Rattle.std.specs.Prelude.{◌≡◌, Err, IfOk, IfErr};
 ghost use Rattle.std.specs.Arc.{arc_value};
 ghost use Rattle.shared_graph.specs.Histories.{Shows};
 ghost use Rattle.snapshot_runs.specs.declared.error.LatestRunError.TheVariants.{BadWorkers};
 ghost use Rattle.snapshot_runs.specs.Outcome.{Leaves};
-ghost use Rattle.snapshot_runs.specs.inside.Recorded.{IsRecordedRun};
+ghost use Rattle.snapshot_runs.specs.inside.Recorded.{IsRecordedOn, IsRecordedRun};
 ghost use Rattle.version_list.specs.Machine.{opened};
 
 use crate::error::LatestRunError;
@@ -12,7 +12,7 @@ use crew::{Gate, Workers};
 use flat_snapshot::Flat;
 use plans::Plan;
 use run_records::{RecordedRun, run_with_record};
-use shared_graph::{Naming, Reader};
+use shared_graph::{Held, Naming, Reader};
 use std::alloc::{AllocError, Global};
 use std::sync::Arc;
 use std::thread::Threads;
@@ -35,6 +35,21 @@ pub(crate) fn run_first<J: Naming, R: Threads + Sync, G: Gate + Sync>(
     let graph = flat_of(alloc, &snapshot.graph)?;
     let run = run_with_record(workers, alloc, plan, &graph, turns, None)?;
     Ok((snapshot.number, run))
+}
+
+/// Runs a plan on a version that is held, and makes a record of the run. The only error is out of memory.
+pub(crate) fn run_first_held<J: Naming, R: Threads + Sync, G: Gate + Sync>(
+    workers: &Workers<'_, R, G>,
+    alloc: Global,
+    plan: &Arc<Plan>,
+    held: &Held<J>,
+    turns: u64,
+) -> Result<RecordedRun, AllocError>
+    ensures { IfOk result (IsRecordedOn (arc_value plan.now) held.now.graph turns) }
+{
+    let snapshot = held.snapshot();
+    let graph = flat_of(alloc, &snapshot.graph)?;
+    run_with_record(workers, alloc, plan, &graph, turns, None)
 }
 
 /// The flat snapshot of a graph, shared. The only error is out of memory.

@@ -1,23 +1,25 @@
-//! Runs of one plan, each on the newest version of a shared graph, and beside the record of the run before.
-ghost use Rattle.std.specs.Prelude.{◌≡◌, ◌↔◌, ◌≤◌, Err, IfOk, IfErr, IfSome, length};
+//! Runs of one plan on versions of a shared graph, each beside the record of the run before.
+ghost use Rattle.std.specs.Prelude.{◌≡◌, ◌↔◌, ◌≤◌, Err, IfOk, IfErr, IfSome, OnErr, length};
 ghost use Rattle.std.specs.Arc.{arc_value};
 ghost use Rattle.crew.specs.Outcome.{AreWorkers};
-ghost use Rattle.shared_graph.specs.Histories.{batches_of, fold_of, IsVersionOf, Shows};
+ghost use Rattle.runner.specs.declared.run_error.RunError.TheVariants as run;
+ghost use Rattle.shared_graph.specs.Histories.{batches_of, fold_of, fold_of_first, IsVersionOf, Shows};
 ghost use Rattle.snapshot_runs.specs.declared.error.LatestRunError.TheVariants.{BadWorkers};
 ghost use Rattle.snapshot_runs.specs.Outcome.{IsOutcomeOn, Leaves};
 ghost use Rattle.snapshot_runs.specs.Runs.{plan_of_runs};
-ghost use Rattle.snapshot_runs.specs.inside.Recorded.{IsRecordedRun};
+ghost use Rattle.snapshot_runs.specs.inside.Recorded.{IsRecordedOn, IsRecordedRun};
 ghost use Rattle.version_list.specs.Machine.{opened};
 
 use crate::error::LatestRunError;
 use crate::last_run::LastRun;
-use crate::recorded::run_first;
+use crate::recorded::{run_first, run_first_held};
 use algorithm_meaning::Outcome;
 use crew::{Gate, WorkerCount, Workers};
 use plans::Plan;
 use run_records::{RecordedRun, RunRecord};
-use shared_graph::{Naming, Reader, Token};
-use std::alloc::Global;
+use runner::RunError;
+use shared_graph::{Held, Naming, Reader, Token};
+use std::alloc::{AllocError, Global};
 use std::sync::Arc;
 use std::thread::Threads;
 
@@ -87,6 +89,22 @@ impl<J: Naming> Runs<J> {
         }
     }
 
+    // Runs the plan on a version that is held, beside the record that is kept, if that is of this version.
+    fn run_on_held<R: Threads + Sync, G: Gate + Sync>(
+        &self,
+        workers: &Workers<'_, R, G>,
+        alloc: Global,
+        held: &Held<J>,
+        turns: u64,
+    ) -> Result<RecordedRun, AllocError>
+        ensures { IfOk result (IsRecordedOn (plan_of_runs self.now) held.now.graph turns) }
+    {
+        match &self.state {
+            RunsState::Recorded(last) => last.run_held_again(workers, alloc, held, turns),
+            RunsState::Planned(plan) => run_first_held(workers, alloc, plan, held, turns),
+        }
+    }
+
     // Keeps the record of a run on the version of this number, which the history has, in place of the one before, if there is a
     // record.
     fn keep(&mut self, version: u64, run_record: Option<RunRecord>, history: Token<J>)
@@ -145,4 +163,47 @@ pub fn run_latest_after<J: Naming, R: Threads + Sync, G: Gate + Sync>(
     } = run;
     runs.keep(version, run_record, reader.history());
     Ok((version, outcome))
+}
+
+/// Runs a plan on a version that is held, by n workers, 1 to 64, for at most n turns, as [`run_held`](crate::run_held) does, and
+/// gives what the run shows. If the last of these runs was on the same version, this one follows the record of that one. Its
+/// outcome is that of a run from nothing. It keeps the record of this run for the next one, if there is memory for it.
+///
+/// The outcome is what the plan's program means within the turns on the fold of the first batches of the history at whose end the
+/// version was held, as many as the version's number says, whatever was committed since.
+///
+/// Errors: `BadWorkers` where the number of workers is not 1 to 64, else `NoMemory`. What is kept of the runs before is then as it
+/// was.
+///
+/// # Example
+///
+/// ```
+/// let outcome = run_held_after(rt, alloc, runs, held, workers, turns, &Open)?;
+/// ```
+pub fn run_held_after<J: Naming, R: Threads + Sync, G: Gate + Sync>(
+    rt: &R,
+    alloc: Global,
+    runs: &mut Runs<J>,
+    held: &Held<J>,
+    workers: usize,
+    turns: u64,
+    gate: &G,
+) -> Result<Outcome, RunError>
+    ensures outcome { IfOk result (IsOutcomeOn (plan_of_runs runs.old) (fold_of_first J.vertices held.now.history held.now.version) turns) }
+    ensures plan { plan_of_runs runs.new ≡ plan_of_runs runs.old }
+    ensures workers { IfOk result (λ _. AreWorkers workers) }
+    ensures bad_workers { (result ≡ Err run.BadWorkers) ↔ (¬ AreWorkers workers) }
+    ensures unchanged { OnErr result (runs.new ≡ runs.old) }
+{
+    let Some(count) = WorkerCount::new(workers) else {
+        return Err(RunError::BadWorkers);
+    };
+    let workers = Workers { rt, gate, count };
+    let run = runs.run_on_held(&workers, alloc, held, turns)?;
+    let RecordedRun {
+        outcome,
+        run_record,
+    } = run;
+    runs.keep(held.snapshot().number, run_record, held.history());
+    Ok(outcome)
 }

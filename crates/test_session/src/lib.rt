@@ -1,7 +1,9 @@
 //! Tests of sessions: tables of steps whose replies were worked out by hand, two jobs in every order of their first steps, random
-//! steps beside a plain world, and steps that memory may run out for.
+//! steps beside a plain world, jobs that are finished on streams of small edits, and steps that memory may run out for.
 #![tactic(auto)]
 
+#[cfg(test)]
+mod finished_jobs;
 #[cfg(test)]
 mod interleavings;
 #[cfg(test)]

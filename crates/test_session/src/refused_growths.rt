@@ -56,6 +56,23 @@ const HALFWAY: Shown<'static> = Shown {
     turns: 1,
 };
 
+// The search when it has ended.
+const ENDED: Shown<'static> = Shown {
+    entries: &[0, 0, 0, 2, -1, -1, 3],
+    members: &[],
+    text: b"",
+    end: End::Finished,
+    turns: 4,
+};
+
+// A commit, a hold, and two searches of what is held.
+const TWO_SEARCHES: [Deed; 4] = [
+    Deed::Commit(GROWN_FORK),
+    Deed::Acquire(Which::Newest),
+    Deed::Start(1, 1, 10),
+    Deed::Start(1, 1, 10),
+];
+
 // Takes a step, and again where it was answered 900. Returns the reply, and whether it was answered so.
 fn take_twice(
     alloc: Global,
@@ -105,5 +122,35 @@ fn ten_steps_of_a_session(rt: HostRuntime) -> Result<(), Fail> {
     assert_eq!(rt; asked.and(told).and(shown), Ok(()));
     assert_eq!(rt; wrong, None, "a step with another reply");
     assert!(rt; refused <= 1, "{refused} steps were answered 900");
+    Ok(())
+}
+
+// Finishes a job, and again where that was answered 900. Returns the reply, and whether it was answered so.
+fn finish_twice(
+    alloc: Global,
+    session: &mut Session,
+    job: u64,
+) -> Result<(SessionReply, bool), SessionError> {
+    match session.finish(alloc, job) {
+        Err(SessionError::NoMemory) => Ok((session.finish(alloc, job)?, true)),
+        first => Ok((first?, false)),
+    }
+}
+
+#[test]
+fn a_finished_search_of_a_session(rt: HostRuntime) -> Result<(), Fail> {
+    let alloc = rt.alloc();
+    let mut session = session(alloc)?;
+    drop(session.run(alloc, &steps_of(alloc, &TWO_SEARCHES)?)?);
+    let first = session.finish(alloc, 1)?;
+    let asked = ask(&rt);
+    let finished = finish_twice(alloc, &mut session, 2);
+    let told = tell(&rt, matches!(finished, Ok((_, true))));
+    let shown = check_job(alloc, &session, 2, &ENDED)?;
+    drop(session);
+    let (second, _) = finished?;
+    assert_eq!(rt; asked.and(told).and(shown), Ok(()));
+    assert_eq!(rt; first, SessionReply::Stands(Stand::Ended(End::Finished)));
+    assert_eq!(rt; second, first);
     Ok(())
 }

@@ -60,9 +60,9 @@ pub(crate) enum Wrong {
     ClosedRow(usize, Answer),
 }
 
-// A version that is held, which is let go without a release.
-struct Kept<J: Naming> {
-    held: Option<Held<J>>,
+/// A version that is held, which is let go without a release.
+pub(crate) struct Kept<J: Naming> {
+    pub(crate) held: Option<Held<J>>,
 }
 
 impl<J: Naming> Drop for Kept<J> {
