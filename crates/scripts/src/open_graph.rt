@@ -304,7 +304,7 @@ impl OpenGraph {
         if workers == 0 || workers > MAX_WORKERS as u64 {
             return host.refuse(BAD_WORKERS, replies);
         }
-        let flat = self.flats.flat(host.alloc, version, graph)?;
+        let flat = self.flats.flat(host.alloc, &self.versions, version, graph)?;
         let program = index as u64;
         let former = records.predecessor(host.alloc, &self.versions, program, version);
         let ran = host

@@ -81,10 +81,12 @@ returns-clause-state g c =
     ∙ ap (λ (o : OpenState). (ran_on o (meaning_on c.in-Some.graph.now found.0 c.args.line.turns)).state) c.self.view_is
     ∙ sym (ap (λ (a : Answer OpenState). a.state) ran))
 
+pub flat-requires-clause-graph : goal.flat-requires-clause-graph
+flat-requires-clause-graph g c =
+    subst (λ (found : Option (ℕ × Bor Digraph)). IfSome found (λ v. IsKept c.self.inside.versions.state v.0 v.1.now)) c.in-Some.is c.version_of.ensures.kept
+
 pub invariant_of-self-2 : goal.invariant_of-self-2
-invariant_of-self-2 g c =
-    let kept = subst (λ (found : Option (ℕ × Bor Digraph)). IfSome found (λ v. IsKept c.self.inside.versions.state v.0 v.1.now)) c.in-Some.is c.version_of.ensures.kept in
-    c.flat.ensures.are_of c.self.inside.versions.state c.self.invariant kept
+invariant_of-self-2 g c = c.flat.ensures.are_of
 
 pub run-requires-clause-former : goal.run-requires-clause-former
 run-requires-clause-former g c =
