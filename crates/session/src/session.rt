@@ -237,7 +237,7 @@ impl Session {
         let Some((version, graph)) = self.versions.kept(Ticket { number: ticket }) else {
             return Err(SessionError::NotHeld);
         };
-        let flat = self.flats.flat(alloc, version, graph)?;
+        let flat = self.flats.flat(alloc, &self.versions, version, graph)?;
         let job = Job::new(alloc, plan.clone()?, flat, turns)?;
         let origin = Some(JobOrigin { program, version });
         self.jobs.push(StartedJob { origin, job })?;

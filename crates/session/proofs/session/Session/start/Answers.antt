@@ -36,23 +36,26 @@ returns-in_default-kept-clause-attempts c = λ programs w at.
       refl,
     )
 
-pub invariant_of-self-in_err-job : goal.invariant_of-self-in_err-job
-invariant_of-self-in_err-job c =
+pub flat-requires-clause-graph : goal.flat-requires-clause-graph
+flat-requires-clause-graph c =
     let s = c.self.inside.versions.state in
     let held : IsHeld s c.args.ticket c.in-Some-kept.version c.in-Some-kept.graph.now =
     subst (λ (found : Option (ℕ × Bor Digraph)). MatchOption found (ticket_version s.open_tickets c.args.ticket ≡ None) (λ v. IsHeld s c.args.ticket v.0 v.1.now)) c.in-Some-kept.is c.kept.ensures in
+    record { kept = held.kept; made = held.made; graph = held.graph }
+
+pub invariant_of-self-in_err-job : goal.invariant_of-self-in_err-job
+invariant_of-self-in_err-job c =
+    let s = c.self.inside.versions.state in
     let inside = c.self.inside in
     with_flats (map arc_value inside.plans.items) s inside.flats _ inside.records inside.jobs.items
-    (c.flat.ensures.are_of s c.self.invariant.are_flats (record { kept = held.kept; made = held.made; graph = held.graph })) c.self.invariant
+    c.flat.ensures.are_of c.self.invariant
 
 pub invariant_of-self-in_err-push : goal.invariant_of-self-in_err-push
 invariant_of-self-in_err-push c =
     let s = c.self.inside.versions.state in
-    let held : IsHeld s c.args.ticket c.in-Some-kept.version c.in-Some-kept.graph.now =
-    subst (λ (found : Option (ℕ × Bor Digraph)). MatchOption found (ticket_version s.open_tickets c.args.ticket ≡ None) (λ v. IsHeld s c.args.ticket v.0 v.1.now)) c.in-Some-kept.is c.kept.ensures in
     let inside = c.self.inside in
     with_flats (map arc_value inside.plans.items) s inside.flats _ inside.records inside.jobs.items
-    (c.flat.ensures.are_of s c.self.invariant.are_flats (record { kept = held.kept; made = held.made; graph = held.graph })) c.self.invariant
+    c.flat.ensures.are_of c.self.invariant
 
 pub invariant_of-self-2 : goal.invariant_of-self-2
 invariant_of-self-2 c =
@@ -65,7 +68,7 @@ invariant_of-self-2 c =
     let held : IsHeld s c.args.ticket c.in-Some-kept.version c.in-Some-kept.graph.now =
     subst (λ (found : Option (ℕ × Bor Digraph)). MatchOption found (ticket_version s.open_tickets c.args.ticket ≡ None) (λ v. IsHeld s c.args.ticket v.0 v.1.now)) c.in-Some-kept.is c.kept.ensures in
     let are = with_flats plans s inside.flats _ inside.records inside.jobs.items
-    (c.flat.ensures.are_of s c.self.invariant.are_flats (record { kept = held.kept; made = held.made; graph = held.graph })) c.self.invariant in
+    c.flat.ensures.are_of c.self.invariant in
     let found : nth_from_one plans c.args.program ≡ Some (arc_value c.in-Some.plan.now) =
     plan_found arc_value plans inside.plans.items c.deref.result.now c.args.program (Some c.in-Some.plan.now) refl c.deref.ensures.value
     (subst (λ found. option_copied found ≡ nth_from_one c.deref.result.now c.args.program) c.in-Some.is c.numbered_in.ensures) in
