@@ -19,6 +19,7 @@ use shared_graph::{Held, LatestError, Naming, Reader, Snapshot, Token};
 use std::alloc::{AllocError, Global};
 use std::sync::Arc;
 use std::thread::Threads;
+use tree_batch::Graph;
 
 /// For so many edges of a graph one edge that differs is worth following.
 const EDGES_FOR_ONE: usize = 100;
@@ -76,7 +77,7 @@ impl<J: Naming> LastRun<J> {
         ensures refused { IfErr result (λ e. Leaves (opened J.vertices J.room) e reader.old reader.new) }
     {
         let (snapshot, edges) = self.newest_since(alloc, reader)?;
-        let graph = flat_of(alloc, &snapshot.graph)?;
+        let graph = self.flat_of_newer(alloc, &snapshot.graph, &edges)?;
         let run = self.run_beside(workers, alloc, &graph, turns, &edges)?;
         Ok((snapshot.number, run))
     }
@@ -125,6 +126,25 @@ impl<J: Naming> LastRun<J> {
             Ok((snapshot, edges))
         } else {
             Ok((snapshot, None))
+        }
+    }
+
+    // The flat snapshot of a graph, which shares with that of this run if the edges that differ are known.
+    fn flat_of_newer(
+        &self,
+        alloc: Global,
+        graph: &Graph,
+        edges: &Option<Vec<(u32, u32)>>,
+    ) -> Result<Arc<Flat>, AllocError>
+        requires { IfSome edges.now (λ edges. AreAlikeBut edges.items graph.now (arc_value self.now.run_record.graph)) }
+        ensures { IfOk result (λ flat. arc_value flat ≡ graph.now) }
+    {
+        match edges {
+            None => flat_of(alloc, graph),
+            Some(edges) => {
+                let flat = Flat::following(alloc, self.run_record.graph(), graph, edges)?;
+                Ok(Arc::new(alloc, flat)?)
+            }
         }
     }
 
