@@ -27,3 +27,8 @@ steps-preserved over c = record {
   applier = c.step.ensures.applier;
   knows = c.in_ok-step.ensures.knows;
 }
+
+pub returns-in-Some-clause-steps : goal.returns-in-Some-clause-steps
+returns-in-Some-clause-steps over c = λ p s plan reduces.
+    let r = c.steps.invariant.reached p s plan reduces in
+    record { count = r.count; is = ap (resting c.args.plan.now.instructions.items) r.is }
