@@ -1,11 +1,10 @@
 -- Proofs of `run_to_end`, src/plan_run.rt.
-use Rattle.std.proofs.Common.{◌∙◌, refl, ap, sym, subst}
-use Rattle.plans.specs.Machine.{step}
+use Rattle.std.proofs.Common.{◌∙◌, sym, subst}
 use Rattle.plans.specs.Plan.{plan_of}
 use Rattle.run_state.specs.State.{graph_value}
 use Rattle.runner.specs.inside.Groups.{AreGroupsOf}
 use Rattle.runner.specs.inside.Position.{configuration_of}
-use Rattle.runner.specs.Resting.{resting}
+use Rattle.runner.proofs.Resting.{rests_later}
 use Rattle.runner.proofs.Running.{reached_itself, reached_next}
 use Rattle.runner.proofs.plan_run.PlanRun.run_to_end.Goals as goal
 
@@ -27,3 +26,7 @@ steps-preserved over c = record {
   applier = c.step.ensures.applier;
   knows = c.in_ok-step.ensures.knows;
 }
+
+pub returns-in-Some-clause-steps : goal.returns-in-Some-clause-steps
+returns-in-Some-clause-steps over c = λ p s plan reduces.
+    rests_later c.args.plan.now p s (graph_value c.args.graph.now) (configuration_of c.args.self.now) (configuration_of c.steps.self) (c.steps.invariant.reached p s plan reduces)
