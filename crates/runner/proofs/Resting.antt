@@ -25,7 +25,7 @@ use Rattle.runner.specs.declared.job.Stand.TheVariants as stand
 use Rattle.runner.specs.Resting.{HasStepped, JobValue, job_value, kept_at, resting}
 use Rattle.runner.proofs.Kept.{forgotten_twice}
 use Rattle.runner.proofs.Partners.{partner_at}
-use Rattle.runner.proofs.Running.{HasEnded, means, steps_more}
+use Rattle.runner.proofs.Running.{HasEnded, IsReached, means, steps_more}
 use Rattle.run_state.specs.State.{graph_value}
 use Rattle.typed_tree.specs.ProgramTree.{ProgramTree}
 
@@ -90,6 +90,10 @@ no_end_kept (Some i) index loops s end = end
 ended_at_rest : (is : List Instruction) (c : Configuration) → HasEnded (resting is c) → HasEnded c
 ended_at_rest is (At index loops s) end = no_end_kept (slice_get is index) index loops s end
 ended_at_rest is (Ended s e) end = tt
+
+-- a run rests where its machine does if it stands there
+pub rests_later : (plan : Plan) (p : ProgramTree) (s : ScheduleTree) (g : GraphValue) (first c : Configuration) → IsReached p g (plan_of p s) first c → RestsLater plan p s g first c
+rests_later plan p s g first c r = record { count = r.count; is = ap (resting plan.instructions.items) r.is }
 
 -- a run that has ended shows what the program means, if it rests where the machine does
 pub means_at_rest : (p : ProgramTree) (s : ScheduleTree) (plan : Plan) (g : GraphValue) (turns : ℕ) (first c : Configuration) → IsPlan plan p s

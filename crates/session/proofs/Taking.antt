@@ -28,19 +28,18 @@ numbered_map : {A B : Type 0} (f : A → B) (xs : List A) (number : ℕ) → nth
 numbered_map f xs zero = refl
 numbered_map f xs (suc index) = slice_get-map f xs index
 
--- the plan of a program, among plans that are shared
-pub plan_found : {A : Type 0} (plan_in : A → Plan) (plans : List Plan) (shared lent : List A) (program : ℕ) (found : Option A) → plans ≡ map plan_in shared → lent ≡ shared
-    → found ≡ nth_from_one lent program
-    → nth_from_one plans program ≡ option_map plan_in found
-plan_found plan_in plans shared lent program found are lies is =
-    ap (λ (ps : List Plan). nth_from_one ps program) are ∙ numbered_map plan_in shared program
-    ∙ ap (option_map plan_in) (ap (λ l. nth_from_one l program) (sym lies) ∙ sym is)
+-- what a number finds among the values of a list, if the list itself is lent
+pub mapped_found : {A B : Type 0} (f : A → B) (values : List B) (items lent : List A) (number : ℕ) (found : Option A) → values ≡ map f items → lent ≡ items → found ≡ nth_from_one lent number
+    → nth_from_one values number ≡ option_map f found
+mapped_found f values items lent number found are lies is =
+    ap (λ (ys : List B). nth_from_one ys number) are ∙ numbered_map f items number
+    ∙ ap (option_map f) (ap (λ xs. nth_from_one xs number) (sym lies) ∙ sym is)
 
 pub starts_no_program : {A : Type 0} (plan_in : A → Plan) (shared lent : List A) (programs : List ScheduledProgram) (w : World) (old : SessionValue) (program turns : ℕ) (graph : Option Digraph)
     → IsAt programs w old
     → old.plans ≡ map plan_in shared → lent ≡ shared → None ≡ nth_from_one lent program → start w turns (nth_from_one programs program) graph ≡ step_refused w 412
 starts_no_program plan_in shared lent programs w old program turns graph at are lies is =
-    no_program programs w old program turns graph at (plan_found plan_in old.plans shared lent program None are lies is)
+    no_program programs w old program turns graph at (mapped_found plan_in old.plans shared lent program None are lies is)
 
 -- the graph of a ticket, in the world
 graph_there : (programs : List ScheduledProgram) (w : World) (old : SessionValue) (s : State) (ticket : ℕ) (version : Option ℕ) → IsAt programs w old → old.versions ≡ s
@@ -54,7 +53,7 @@ pub starts_no_ticket : {A : Type 0} (plan_in : A → Plan) (shared lent : List A
     → old.plans ≡ map plan_in shared → lent ≡ shared → Some plan ≡ nth_from_one lent program → old.versions ≡ s → ticket_version s.open_tickets ticket ≡ None
     → start w turns (nth_from_one programs program) (ticket_graph w.versions ticket) ≡ step_refused w 122
 starts_no_ticket plan_in shared lent programs w old s program ticket turns plan at are lies is here none =
-    no_ticket programs w old program turns (plan_in plan) (ticket_graph w.versions ticket) at (plan_found plan_in old.plans shared lent program (Some plan) are lies is)
+    no_ticket programs w old program turns (plan_in plan) (ticket_graph w.versions ticket) at (mapped_found plan_in old.plans shared lent program (Some plan) are lies is)
     (graph_there programs w old s ticket None at here none)
 
 -- a new job of a plan on a graph is one of an equal plan on an equal graph
@@ -69,7 +68,7 @@ pub starts_there : {A : Type 0} (plan_in : A → Plan) (shared lent : List A) (p
     → Takes programs (start w turns (nth_from_one programs program) (ticket_graph w.versions ticket)) (Job number) new
 starts_there plan_in shared lent programs w old new s program ticket version turns plan graph flat own j number at are lies is here held graph_is own_is flat_is new_is after count =
     subst (λ (n : ℕ). Takes programs (start w turns (nth_from_one programs program) (ticket_graph w.versions ticket)) (Job n) new) (sym count)
-    (starts programs w old new program turns (plan_in plan) graph (ticket_graph w.versions ticket) j at (plan_found plan_in old.plans shared lent program (Some plan) are lies is)
+    (starts programs w old new program turns (plan_in plan) graph (ticket_graph w.versions ticket) j at (mapped_found plan_in old.plans shared lent program (Some plan) are lies is)
     (graph_there programs w old s ticket (Some version) at here held ∙ ap Some (sym graph_is)) (new_of own (plan_in plan) flat graph turns j own_is flat_is new_is) after)
 
 -- the jobs of a session, without where they come from

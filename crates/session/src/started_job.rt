@@ -1,27 +1,27 @@
 //! Jobs of a session, and how one that has done nothing follows the record of a former run.
-ghost use Rattle.std.specs.Prelude.{◌≡◌, IfOk, IfSome, List, None, OnErr, OnOk, Some, true};
+ghost use Rattle.std.specs.Prelude.{◌≡◌, IfOk, IfSome, None, OnErr, OnOk, Some, true};
 ghost use Rattle.std.specs.Arc.{arc_value};
 ghost use Rattle.typed_tree.specs.ProgramTree.{ProgramTree};
 ghost use Rattle.apply_options.specs.ScheduleTree.{ScheduleTree};
-ghost use Rattle.plans.specs.declared.plan.Plan.{Plan};
 ghost use Rattle.plans.specs.Machine.{step};
 ghost use Rattle.plans.specs.Plan.{plan_of};
 ghost use Rattle.plans.specs.PlanOf.{IsPlan};
 ghost use Rattle.plans.specs.Reducing.{AppliesReduce};
-ghost use Rattle.flat_snapshot.specs.Digraph.{Digraph};
 ghost use Rattle.run_state.specs.State.{graph_value};
 ghost use Rattle.runner.specs.Job.{stand_of};
 ghost use Rattle.runner.specs.Resting.{HasStepped, job_value};
 ghost use Rattle.runner.specs.declared.job.Stand.TheVariants.{Ended};
-ghost use Rattle.run_records.specs.inside.Follower.{IsFollower};
 ghost use Rattle.version_list.specs.Machine.{is_kept};
-ghost use Rattle.version_records.specs.VersionRecords.{AreRecordsOf, IsPredecessor};
-ghost use Rattle.session.specs.inside.Records.{HasItsOrigin, HaveSomePlans, IsOriginOf, IsRecordOf, IsRecordOfRun};
+ghost use Rattle.version_records.specs.VersionRecords.{IsPredecessor};
+ghost use Rattle.session.specs.inside.Records.{HaveSomePlans, IsRecordOfRun, ServesRuns, StayRecords};
 
 use algorithm_meaning::End;
+use flat_snapshot::Flat;
+use plans::Plan;
 use run_records::{Follower, RunRecord};
 use runner::{Job, SerialApplier, Stand};
 use std::alloc::{AllocError, Global};
+use std::sync::Arc;
 use version_list::Versions;
 use version_records::{Predecessor, VersionRecords};
 
@@ -76,8 +76,7 @@ impl StartedJob {
         ensures steps { (p : ProgramTree) (s : ScheduleTree) → IsPlan self.old.job.plan p s → AppliesReduce p (plan_of p s)
             → HasStepped p s self.old.job self.new.job }
         ensures end { IfOk result (λ end. stand_of self.new.job.stands ≡ Ended end) }
-        ensures records { (plans : List Plan) → AreRecordsOf (IsRecordOf plans) versions.now.state records.old → HasItsOrigin plans versions.now.state self.old
-            → AreRecordsOf (IsRecordOf plans) versions.now.state records.new }
+        ensures records { StayRecords versions.now.state records.old records.new self.old.job self.old.origin }
         ensures origin { self.new.origin ≡ None }
     {
         match self.origin.take() {
@@ -104,12 +103,17 @@ fn finish_kept(
     ensures steps { (p : ProgramTree) (s : ScheduleTree) → IsPlan job.old.plan p s → AppliesReduce p (plan_of p s)
         → HasStepped p s job.old job.new }
     ensures end { IfOk result (λ end. stand_of job.new.stands ≡ Ended end) }
-    ensures records { (plans : List Plan) → AreRecordsOf (IsRecordOf plans) versions.now.state records.old → IsOriginOf plans versions.now.state job.old origin
-        → AreRecordsOf (IsRecordOf plans) versions.now.state records.new }
+    ensures records { StayRecords versions.now.state records.old records.new job.old (Some origin) }
 {
+    let Ok(plan) = job.plan().clone() else {
+        return job.finish(alloc, alone);
+    };
+    let Ok(graph) = job.graph().clone() else {
+        return job.finish(alloc, alone);
+    };
     let JobOrigin { program, version } = origin;
     let former = records.predecessor(alloc, versions, program, version);
-    match finish_recorded(alloc, job, former) {
+    match finish_recorded(alloc, job, plan, graph, former) {
         Ok(ended) => {
             let RecordedEnd { end, run_record } = ended;
             records.keep(versions, program, version, run_record);
@@ -119,21 +123,23 @@ fn finish_kept(
     }
 }
 
-/// Finishes a job that has done nothing, beside the record of a former run if there is one, and makes the record of its run. The
-/// only error is out of memory, as of [`Job::finish`].
+/// Finishes a job of this plan on this graph that has done nothing, beside the record of a former run if there is one, and makes the
+/// record of its run. The only error is out of memory, as of [`Job::finish`].
 fn finish_recorded(
     alloc: Global,
     job: &mut Job,
+    plan: Arc<Plan>,
+    graph: Arc<Flat>,
     former: Option<Predecessor<'_, RunRecord>>,
 ) -> Result<RecordedEnd, AllocError>
-    requires { IfSome former (IsPredecessor (IsRecordOfRun job.old.plan) job.old.graph) }
+    requires plan { arc_value plan ≡ job.old.plan }
+    requires graph { arc_value graph ≡ job.old.graph }
+    requires former { IfSome former (IsPredecessor (IsRecordOfRun job.old.plan) job.old.graph) }
     ensures steps { (p : ProgramTree) (s : ScheduleTree) → IsPlan job.old.plan p s → AppliesReduce p (plan_of p s)
         → HasStepped p s job.old job.new }
     ensures end { IfOk result (λ r. stand_of job.new.stands ≡ Ended r.end) }
     ensures kept { IfOk result (λ r. IfSome r.run_record (λ made. IsRecordOfRun job.old.plan made job.old.graph)) }
 {
-    let plan = job.plan().clone()?;
-    let graph = job.graph().clone()?;
     let mut follower = follower_of(alloc, &former);
     let end = job.finish(alloc, &mut follower)?;
     let run_record = follower.into_record(plan, graph);
@@ -145,7 +151,7 @@ fn follower_of<'a>(
     alloc: Global,
     former: &'a Option<Predecessor<'a, RunRecord>>,
 ) -> Follower<'a, SerialApplier>
-    ensures { (plan : Plan) (g : Digraph) → IfSome former.now (IsPredecessor (IsRecordOfRun plan) g) → IsFollower plan.functions g result }
+    ensures { ServesRuns former.now result }
 {
     let alone = SerialApplier::new(alloc);
     match former {

@@ -20,9 +20,9 @@ const VERTICES: u32 = 40;
 const FIRST: u64 = 900;
 
 // How many streams each program has, and how many rounds a stream has.
-const STREAMS: u64 = 2;
+const STREAMS: u64 = 1;
 
-const ROUNDS: u64 = 12;
+const ROUNDS: u64 = 10;
 
 // At most so many turns of a job: some jobs end by their turns.
 const TURNS: [u64; 3] = [2, 5, 60];

@@ -214,7 +214,7 @@ fn check_opened<J: Naming, R: Threads + Wait + AllocGlobal + Sync>(
     opening: Opening,
     vertices: u32,
     plan: Arc<Plan>,
-    (versions, seed): (Versions, u64),
+    stream: (Versions, u64),
 ) -> Result<Checked, Fail>
     requires book { opening ≡ J.book }
     requires vertices { J.vertices ≡ vertices }
@@ -222,6 +222,7 @@ fn check_opened<J: Naming, R: Threads + Wait + AllocGlobal + Sync>(
 {
     let alloc = rt.alloc();
     let (graph, mut readers) = SharedGraph::<J, &R>::open(rt, alloc, opening, vertices, 64, 3)?;
+    let (versions, seed) = stream;
     match versions {
         Versions::Newest => check_stream(rt, alloc, &graph, &mut readers, plan, seed),
         Versions::Held => check_held_stream(rt, alloc, &graph, &mut readers, plan, seed),

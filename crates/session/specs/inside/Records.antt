@@ -3,13 +3,16 @@ use Rattle.std.specs.Prelude.{◌≡◌, ℕ, ◌≤◌, IfSome, List, Option, S
 use Rattle.std.specs.Arc.{arc_value}
 use Rattle.flat_snapshot.specs.Digraph.{Digraph}
 use Rattle.plans.specs.declared.plan.Plan.{Plan}
+use Rattle.run_records.specs.declared.follower.Follower.{Follower}
 use Rattle.run_records.specs.declared.run_record.RunRecord.{RunRecord}
+use Rattle.run_records.specs.inside.Follower.{IsFollower}
 use Rattle.runner.specs.Resting.{JobValue}
 use Rattle.version_flats.specs.declared.version_flats.VersionFlats.{VersionFlats}
 use Rattle.version_flats.specs.VersionFlats.{AreOf}
 use Rattle.version_list.specs.Machine.{State, newest_number, version_graph}
+use Rattle.version_records.specs.declared.version_records.Predecessor.{Predecessor}
 use Rattle.version_records.specs.declared.version_records.VersionRecords.{VersionRecords}
-use Rattle.version_records.specs.VersionRecords.{AreRecordsOf}
+use Rattle.version_records.specs.VersionRecords.{AreRecordsOf, IsPredecessor}
 use Rattle.session.specs.declared.started_job.JobOrigin.{JobOrigin}
 use Rattle.session.specs.declared.started_job.StartedJob.{StartedJob}
 use Rattle.session.specs.World.{nth_from_one}
@@ -43,3 +46,11 @@ pub record HaveSomePlans (s : State) (records : VersionRecords RunRecord) (job :
   pub plans : List Plan
   pub are_records : AreRecordsOf (IsRecordOf plans) s records
   pub is_origin : IfSome origin (IsOriginOf plans s job)
+
+-- the records stay those of runs of their plans, whatever the plans are of which they and the job were
+abbrev pub StayRecords : State → (old new : VersionRecords RunRecord) → JobValue → Option JobOrigin → Type 0
+StayRecords s old new job origin = (plans : List Plan) → AreRecordsOf (IsRecordOf plans) s old → IfSome origin (IsOriginOf plans s job) → AreRecordsOf (IsRecordOf plans) s new
+
+-- the follower serves each run for which the record that it is given, if there is one, is that of a former run
+abbrev pub ServesRuns : {E : Type 0} → Option (Predecessor RunRecord) → Follower E → Type 0
+ServesRuns former follower = (plan : Plan) (graph : Digraph) → IfSome former (IsPredecessor (IsRecordOfRun plan) graph) → IsFollower plan.functions graph follower

@@ -1,11 +1,10 @@
 -- Proofs of `run_to_end`, src/plan_run.rt.
-use Rattle.std.proofs.Common.{◌∙◌, refl, ap, sym, subst}
-use Rattle.plans.specs.Machine.{step}
+use Rattle.std.proofs.Common.{◌∙◌, sym, subst}
 use Rattle.plans.specs.Plan.{plan_of}
 use Rattle.run_state.specs.State.{graph_value}
 use Rattle.runner.specs.inside.Groups.{AreGroupsOf}
 use Rattle.runner.specs.inside.Position.{configuration_of}
-use Rattle.runner.specs.Resting.{resting}
+use Rattle.runner.proofs.Resting.{rests_later}
 use Rattle.runner.proofs.Running.{reached_itself, reached_next}
 use Rattle.runner.proofs.plan_run.PlanRun.run_to_end.Goals as goal
 
@@ -30,5 +29,4 @@ steps-preserved over c = record {
 
 pub returns-in-Some-clause-steps : goal.returns-in-Some-clause-steps
 returns-in-Some-clause-steps over c = λ p s plan reduces.
-    let r = c.steps.invariant.reached p s plan reduces in
-    record { count = r.count; is = ap (resting c.args.plan.now.instructions.items) r.is }
+    rests_later c.args.plan.now p s (graph_value c.args.graph.now) (configuration_of c.args.self.now) (configuration_of c.steps.self) (c.steps.invariant.reached p s plan reduces)

@@ -33,7 +33,7 @@ returns c = λ programs w at.
     let there = subst (λ (found : Option (MutBor StartedJob)). IsItemAtMut jobs c.in-Some.index found) c.in-Some-get_mut.is c.get_mut.ensures.item in
     let are = ap (λ (v : SessionValue). v.jobs) (sym c.self.view_is) in
     finishes_there programs w c.args.self.now _ c.args.number c.in-Some-get_mut.started.now.job c.finish.new.self.job c.in_ok-end.end at
-    (job_numbered c.args.self.now jobs c.args.number c.in-Some.index c.in-Some-get_mut.started.now are c.in-Some.ensures there.3.0 there.3.1) c.finish.ensures.steps c.in_ok-end.ensures
+    (job_numbered c.args.self.now jobs c.args.number c.in-Some.index c.in-Some-get_mut.started.now are c.in-Some.ensures there.3.0 there.3.1) c.finish.ensures.steps c.in_ok-end.ensures.end
     (with_job_there c.args.self.now _ jobs c.args.number c.in-Some.index c.finish.new.self are c.in-Some.ensures
     (ap (λ (v : SessionValue). record v { jobs = jobs_of (slice_set jobs c.in-Some.index c.finish.new.self) }) c.self.view_is))
 

@@ -12,7 +12,7 @@ use Rattle.session.specs.World.{nth_from_one}
 use Rattle.session.specs.Standing.{SessionValue}
 use Rattle.session.specs.inside.Records.{AreOfVersions}
 use Rattle.session.proofs.Recording.{graph_of_new, plan_of_new, with_flats, with_started}
-use Rattle.session.proofs.Taking.{jobs_of, plan_found, starts_no_program, starts_no_ticket, starts_there}
+use Rattle.session.proofs.Taking.{jobs_of, mapped_found, starts_no_program, starts_no_ticket, starts_there}
 use Rattle.session.proofs.session.Session.start.Goals as goal
 
 pub returns-in_default-clause-attempts : goal.returns-in_default-clause-attempts
@@ -70,7 +70,7 @@ invariant_of-self-2 c =
     let are = with_flats plans s inside.flats _ inside.records inside.jobs.items
     c.flat.ensures.are_of c.self.invariant in
     let found : nth_from_one plans c.args.program ≡ Some (arc_value c.in-Some.plan.now) =
-    plan_found arc_value plans inside.plans.items c.deref.result.now c.args.program (Some c.in-Some.plan.now) refl c.deref.ensures.value
+    mapped_found arc_value plans inside.plans.items c.deref.result.now c.args.program (Some c.in-Some.plan.now) refl c.deref.ensures.value
     (subst (λ found. option_copied found ≡ nth_from_one c.deref.result.now c.args.program) c.in-Some.is c.numbered_in.ensures) in
     let same_plan = plan_of_new own flat c.args.turns job c.in_ok-job.ensures ∙ c.in_ok-clone.ensures.cases in
     let same_graph = graph_of_new own flat c.args.turns job c.in_ok-job.ensures ∙ c.in_ok-flat.ensures.flat in
