@@ -1,5 +1,5 @@
 //! Command parser: the command of a line.
-ghost use Rattle.std.specs.Prelude.{◌≡◌, ◌∷◌};
+ghost use Rattle.std.specs.Prelude.{◌≡◌, ◌≢◌, ◌∷◌, codes};
 ghost use Rattle.std.specs.Option.{option_map};
 ghost use Rattle.scripts.specs.declared.commands.Command.TheVariants.{Commit, Edges, Release};
 ghost use Rattle.scripts.specs.Commands.{command_of, command_of_words, vertices_of, add_of, weight_of, remove_of, grow_of, alone, hold_of, run_of, ticket_of, one_number};
@@ -24,12 +24,23 @@ pub fn command(line: &[u8]) -> Option<Command>
 fn named(name: &[u8], words: Words<'_>) -> Option<Command>
     ensures { result ≡ command_of_words (name.now ∷ words.entry) }
 {
+    match name {
+        b"add" => add(words),
+        b"del" => remove(words),
+        _ => named_otherwise(name, words),
+    }
+}
+
+/// Like `named`, for the commands that name no edge. A script has few of them; they are apart, so that the others need
+/// little room.
+#[inline(never)]
+fn named_otherwise(name: &[u8], words: Words<'_>) -> Option<Command>
+    requires add { name.now ≢ codes "add" }
+    requires del { name.now ≢ codes "del" }
+    ensures { result ≡ command_of_words (name.now ∷ words.entry) }
+{
     if name == b"vertices".as_slice() {
         vertices(words)
-    } else if name == b"add".as_slice() {
-        add(words)
-    } else if name == b"del".as_slice() {
-        remove(words)
     } else if name == b"grow".as_slice() {
         grow(words)
     } else if name == b"commit".as_slice() {

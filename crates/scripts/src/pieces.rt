@@ -1,7 +1,9 @@
 //! The pieces of a text between its separators.
-ghost use Rattle.std.specs.Prelude.{◌≡◌, ◌<◌, ◌↔◌, ℕ, List, [], ◌∷◌, ◌++◌, length, IsNone, IfSome, MatchOption};
+ghost use Rattle.std.specs.Prelude.{◌≡◌, ◌<◌, ◌↔◌, ℕ, List, [], ◌∷◌, ◌++◌, ◌+◌, length, take, drop, IsNone, IfSome, MatchOption};
 ghost use Rattle.scripts.specs.Commands.{HasNone, lines_of, JoinsAgain, IsFirstPiece, HasLastLine};
 ghost use Rattle.scripts.specs.inside.Parsing.{IsCutAt};
+
+use memchr::memchr;
 
 /// The first line, without its line feed, and what is after that line feed; or `None` where the
 /// bytes have no line feed, so that they are one line. The time goes by the line, not by the rest.
@@ -15,16 +17,34 @@ pub fn split_line(bytes: &[u8]) -> Option<(&[u8], &[u8])>
         (λ parts. lines_of bytes.now ≡ parts.0.now ∷ lines_of parts.1.now) }
     ensures shorter { IfSome result (λ parts. length parts.1.now < length bytes.now) }
 {
-    split_piece(bytes, b'\n')
+    split_at_line_feed(bytes)
 }
 
-/// What is before the first separator, and what is after it.
+/// What is before the first line feed, and what is after it.
+fn split_at_line_feed(bytes: &[u8]) -> Option<(&[u8], &[u8])>
+    ensures { IsCutAt 10 bytes.now result }
+{
+    let end = memchr(b'\n', bytes)?;
+    Some(around(bytes, end))
+}
+
+/// What is before the first separator, and what is after it. It is for words: short pieces take less time than by `memchr`.
 #[inline]
 pub(crate) fn split_piece(bytes: &[u8], separator: u8) -> Option<(&[u8], &[u8])>
     ensures { IsCutAt separator bytes.now result }
 {
     let end = bytes.iter().position(|byte| *byte == separator)?;
-    Some((&bytes[..end], &bytes[end + 1..]))
+    Some(around(bytes, end))
+}
+
+/// What is before an index, and what is after it.
+#[inline]
+fn around(bytes: &[u8], index: usize) -> (&[u8], &[u8])
+    requires { index < length bytes.now }
+    ensures before { result.0.now ≡ take index bytes.now }
+    ensures after { result.1.now ≡ drop (index + 1) bytes.now }
+{
+    (&bytes[..index], &bytes[index + 1..])
 }
 
 /// The law that the pieces of a text, joined by the separator, are the text again, and that no other

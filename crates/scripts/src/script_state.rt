@@ -171,7 +171,9 @@ fn answer_line<P: Programs, W: Drain>(
     }
 }
 
-/// Does a command while no graph is open: only `vertices` may be there, and it opens one.
+/// Does a command while no graph is open: only `vertices` may be there, and it opens one. Other lines need little room
+/// because it is apart.
+#[inline(never)]
 fn open<P: Programs, W: Drain>(
     host: &Host<'_, P>,
     graph: &mut Option<OpenGraph>,

@@ -1,6 +1,5 @@
 -- Proofs of `split_piece`, src/pieces.rt.
-use Rattle.std.proofs.Common.{◌≡◌, ◌≢◌, ℕ, ◌+◌, ◌<◌, length, get_or, rules}
-use Rattle.std.proofs.lemmas.List.{take_rest}
+use Rattle.std.proofs.Common.{◌≡◌, ◌≢◌, ℕ, ◌<◌, length, get_or, rules}
 use Rattle.scripts.proofs.PieceLaws.{cut_at, HasNone-take}
 use Rattle.scripts.proofs.pieces.split_piece.Goals as goal
 
@@ -9,6 +8,6 @@ returns c =
     let within : c.in_ok-end.end < length c.args.bytes.now = search rules in
     let found : get_or c.args.bytes.now c.in_ok-end.end 0 ≡ c.args.separator = search rules in
     let before : (k : ℕ) → k < c.in_ok-end.end → get_or c.args.bytes.now k 0 ≢ c.args.separator = search rules in (
-      rw (take_rest c.args.bytes.now (c.in_ok-end.end + 1)) (cut_at c.args.separator c.args.bytes.now c.in_ok-end.end within found),
-      HasNone-take c.args.separator c.args.bytes.now c.in_ok-end.end before,
+      rw (c.around.ensures.before, c.around.ensures.after) (cut_at c.args.separator c.args.bytes.now c.in_ok-end.end within found),
+      rw c.around.ensures.before (HasNone-take c.args.separator c.args.bytes.now c.in_ok-end.end before),
     )
