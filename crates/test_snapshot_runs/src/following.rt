@@ -31,9 +31,9 @@ const BATCHES: u64 = 12;
 // How many versions a stream holds.
 const HOLDS: u64 = 3;
 
-// On which versions the runs of a stream are.
+// On which versions the runs of a stream are: on the newest, or on those that are held.
 #[derive(Clone, Copy)]
-enum Versions {
+enum StreamKind {
     Newest,
     Held,
 }
@@ -214,7 +214,7 @@ fn check_opened<J: Naming, R: Threads + Wait + AllocGlobal + Sync>(
     opening: Opening,
     vertices: u32,
     plan: Arc<Plan>,
-    stream: (Versions, u64),
+    stream: (StreamKind, u64),
 ) -> Result<Checked, Fail>
     requires book { opening ≡ J.book }
     requires vertices { J.vertices ≡ vertices }
@@ -222,10 +222,10 @@ fn check_opened<J: Naming, R: Threads + Wait + AllocGlobal + Sync>(
 {
     let alloc = rt.alloc();
     let (graph, mut readers) = SharedGraph::<J, &R>::open(rt, alloc, opening, vertices, 64, 3)?;
-    let (versions, seed) = stream;
-    match versions {
-        Versions::Newest => check_stream(rt, alloc, &graph, &mut readers, plan, seed),
-        Versions::Held => check_held_stream(rt, alloc, &graph, &mut readers, plan, seed),
+    let (kind, seed) = stream;
+    match kind {
+        StreamKind::Newest => check_stream(rt, alloc, &graph, &mut readers, plan, seed),
+        StreamKind::Held => check_held_stream(rt, alloc, &graph, &mut readers, plan, seed),
     }
 }
 
@@ -233,7 +233,7 @@ fn check_opened<J: Naming, R: Threads + Wait + AllocGlobal + Sync>(
 fn check_program<R: Threads + Wait + AllocGlobal + Sync>(
     rt: &R,
     (_, program, schedule): &Scheduled,
-    versions: Versions,
+    kind: StreamKind,
 ) -> Result<Checked, Fail> {
     let alloc = rt.alloc();
     let mut text = String::new(alloc);
@@ -241,7 +241,7 @@ fn check_program<R: Threads + Wait + AllocGlobal + Sync>(
     text.push_str(schedule)?;
     let plan = Arc::new(alloc, compile(alloc, text.as_bytes())?)?;
     for seed in 0..STREAMS {
-        let stream = (versions, seed);
+        let stream = (kind, seed);
         let checked = check_opened::<Brand, R>(
             rt,
             Opening::new(),
@@ -259,7 +259,7 @@ fn check_program<R: Threads + Wait + AllocGlobal + Sync>(
 #[test]
 fn runs_that_follow_show_what_runs_from_nothing_show(rt: HostRuntime) -> Result<(), Fail> {
     for scheduled in &PROGRAMS {
-        let checked = check_program(&rt, scheduled, Versions::Newest)?;
+        let checked = check_program(&rt, scheduled, StreamKind::Newest)?;
         assert!(rt; checked == Ok(()), "{}", scheduled.0);
     }
     Ok(())
@@ -268,7 +268,7 @@ fn runs_that_follow_show_what_runs_from_nothing_show(rt: HostRuntime) -> Result<
 #[test]
 fn held_runs_that_follow_show_what_runs_from_nothing_show(rt: HostRuntime) -> Result<(), Fail> {
     for scheduled in &PROGRAMS {
-        let checked = check_program(&rt, scheduled, Versions::Held)?;
+        let checked = check_program(&rt, scheduled, StreamKind::Held)?;
         assert!(rt; checked == Ok(()), "{}", scheduled.0);
     }
     Ok(())
