@@ -1,7 +1,7 @@
 -- A session that stands where a world stands takes a step as the world does.
 use Rattle.std.proofs.Common.{◌≡◌, ℕ, zero, suc, ◌+◌, List, [], ◌∷◌, ◌++◌, Option, Some, None, Result, Ok, Err, IfOk, OnErr, slice_get, length, refl, sym, ap, ◌∙◌, subst}
 use Rattle.std.specs.Prelude.{slice_set}
-use Rattle.std.specs.Result.{IfErr}
+use Rattle.std.specs.Result.{IfErr, IsErrAnd}
 use Rattle.algorithm_meaning.specs.Meaning.{initial_state}
 use Rattle.algorithm_meaning.specs.State.{StateValue}
 use Rattle.algorithm_meaning.specs.declared.state.LoopCounter.{LoopCounter}
@@ -261,3 +261,13 @@ told_only_memory (Err NotHeld) = tt
 told_only_memory (Err HistoryFull) = tt
 told_only_memory (Err NoProgram) = tt
 told_only_memory (Err NoJob) = tt
+
+-- memory runs out for a step, and nothing is changed
+pub no_memory_attempt : (programs : List ScheduledProgram) (w : World) (a : StepAnswer) (old new : SessionValue) (result : Result SessionReply SessionError) → IsErrAnd result (λ e. e ≡ NoMemory) → new ≡ old
+    → Attempts programs w a old result new
+no_memory_attempt programs w a old new (Ok reply) is same = absurd is
+no_memory_attempt programs w a old new (Err e) is same = subst (λ (f : SessionError). Attempts programs w a old (Err f) new) (sym is) same
+
+pub on_err : {A E : Type 0} (result : Result A E) (P : Type 0) → P → OnErr result P
+on_err (Ok x) P is = tt
+on_err (Err e) P is = is

@@ -1,5 +1,6 @@
 -- Jobs that are stepped until they have ended.
-use Rattle.std.proofs.Common.{◌≡◌, ℕ, zero, suc, ◌+◌, List, [], ◌∷◌, Option, Some, None, Result, Ok, Err, replicate, refl, sym, ap, ◌∙◌, subst, arith}
+use Rattle.std.proofs.Common.{◌≡◌, ℕ, zero, suc, ◌+◌, List, Option, Some, None, Result, Ok, Err, refl, sym, ap, ◌∙◌, subst, arith}
+use Rattle.std.specs.Result.{IsErrAnd}
 use Rattle.algorithm_meaning.specs.declared.outcome.End.{End}
 use Rattle.apply_options.specs.ScheduleTree.{ScheduleTree}
 use Rattle.plans.specs.Machine.{Configuration, At, Ended}
@@ -13,11 +14,10 @@ use Rattle.typed_tree.specs.ProgramTree.{ProgramTree}
 use Rattle.version_list.specs.declared.step.Reply.TheVariants.{Refused}
 use Rattle.session.specs.declared.error.SessionError.{SessionError}
 use Rattle.session.specs.declared.error.SessionError.TheVariants.{VertexRange, BadChunkSize, NotKept, NotHeld, HistoryFull, NoProgram, NoJob, NoMemory}
-use Rattle.session.specs.declared.step.SessionStep.{SessionStep}
 use Rattle.session.specs.declared.step.SessionStep.TheVariants.{JobStep}
 use Rattle.session.specs.declared.step.SessionReply.{SessionReply}
 use Rattle.session.specs.declared.step.SessionReply.TheVariants.{Of, Stands}
-use Rattle.session.specs.World.{ScheduledProgram, WorldJob, World, job_index, one_more, after_its_step, nth_from_one, with_numbered, job_step, step_answer, world_after}
+use Rattle.session.specs.World.{ScheduledProgram, WorldJob, World, job_index, one_more, after_its_step, nth_from_one, with_numbered, job_step, step_answer}
 use Rattle.session.specs.Standing.{SessionValue, StandsAt, IsAt, Takes, TellsEnd, HasFinished, Finishes, after_job_steps}
 use Rattle.session.specs.Laws.{GoesOnAlone}
 use Rattle.session.specs.inside.Attempts.{FinishesOrNot, told_of}
@@ -26,7 +26,7 @@ use Rattle.session.proofs.Attempting.{numbered_partner, numbered_none, pairwise_
 use Rattle.session.proofs.Numbered.{numbered_same, with_numbered_again, with_numbered_same}
 
 -- a job after so many steps of its own
-after_steps : (n : ℕ) → WorldJob → WorldJob
+abbrev after_steps : (n : ℕ) → WorldJob → WorldJob
 after_steps zero job = job
 after_steps (suc n) job = after_steps n (after_its_step job)
 
@@ -154,3 +154,9 @@ told_finishes programs w number old new (Err NotKept) at is = absurd is
 told_finishes programs w number old new (Err NotHeld) at is = absurd is
 told_finishes programs w number old new (Err HistoryFull) at is = absurd is
 told_finishes programs w number old new (Err NoProgram) at is = absurd is
+
+-- memory runs out after some number of steps of a job
+pub stops_finishing : (programs : List ScheduledProgram) (w : World) (number : ℕ) (old new : SessionValue) (result : Result SessionReply SessionError) → IsErrAnd result (λ e. e ≡ NoMemory)
+    → (count : ℕ) × IsAt programs (after_job_steps programs w number count) new → FinishesOrNot programs w number old result new
+stops_finishing programs w number old new (Ok reply) is stops = absurd is
+stops_finishing programs w number old new (Err e) is stops = subst (λ (f : SessionError). FinishesOrNot programs w number old (Err f) new) (sym is) stops

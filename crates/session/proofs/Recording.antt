@@ -1,12 +1,12 @@
 -- What a session keeps beside its versions stays of these.
-use Rattle.std.proofs.Common.{◌≡◌, ℕ, ◌<◌, ◌≤◌, ◌∙◌, ◌++◌, ◌∷◌, [], true, length, get_or, List, Option, Some, None, IfSome, All, refl, sym, ap, subst, arith}
+use Rattle.std.proofs.Common.{◌≡◌, ℕ, ◌<◌, ◌∙◌, ◌++◌, ◌∷◌, [], true, length, get_or, List, Option, Some, None, IfSome, All, refl, sym, ap, subst, arith}
 use Rattle.std.specs.Arc.{arc_value}
 use Rattle.std.specs.Coded.{codes}
 use Rattle.std.specs.Prelude.{slice_set}
 use Rattle.std.proofs.Math.Logic.{∥∥₁_elim}
 use Rattle.std.proofs.lemmas.List.Elements.{All-append, All-cons, All-nil, All-set}
 use Rattle.plans.specs.contracts.plan.Plan as plan_contract
-use Rattle.plans.specs.PlanOf.{program_of}
+use Rattle.plans.specs.PlanOf.{IsPlan, program_of}
 use Rattle.edge_differences.specs.Listed.{AreSameBut}
 use Rattle.flat_snapshot.specs.Digraph.{Digraph}
 use Rattle.plans.specs.declared.plan.Plan.{Plan}
@@ -14,24 +14,26 @@ use Rattle.run_records.specs.declared.follower.Follower.{Follower}
 use Rattle.run_records.specs.declared.run_record.RunRecord.{RunRecord}
 use Rattle.run_records.specs.inside.Follower.{IsFollower}
 use Rattle.runner.specs.Resting.{JobValue}
+use Rattle.runner.proofs.Resting.{stepped_twice}
 use Rattle.tree_batch.specs.Edge.{Ends}
 use Rattle.version_flats.specs.declared.version_flats.VersionFlats.{VersionFlats}
 use Rattle.version_flats.specs.VersionFlats.{AreOf, Follows, IsKept}
 use Rattle.version_list.specs.declared.step.Which.{Which}
 use Rattle.version_list.specs.declared.step.Step.TheVariants.{Acquire}
 use Rattle.version_list.specs.declared.step.Reply.TheVariants.{Ticket}
-use Rattle.version_list.specs.Machine.{State, changed, is_kept, newest_number, version_graph}
+use Rattle.version_list.specs.Machine.{State, changed, is_kept, newest_number}
 use Rattle.version_list.specs.Timeline.{Timeline, Accepts}
 use Rattle.version_records.specs.declared.version_records.Predecessor.{Predecessor}
 use Rattle.version_records.specs.declared.version_records.VersionRecords.{VersionRecords}
-use Rattle.version_records.specs.VersionRecords.{AreRecordsOf, IsOfFormer, IsPredecessor, MayKeep, MayLose}
+use Rattle.version_records.specs.VersionRecords.{AreRecordsOf, HaveNone, IsOfFormer, IsPredecessor, MayKeep, MayLose}
 use Rattle.version_records.specs.inside.Versions.{AreVersionsOf}
-use Rattle.version_records.proofs.Keeping.{AreRecordsOf-kept, AreRecordsOf-later, AreRecordsOf-lost, predecessors}
+use Rattle.version_records.proofs.Keeping.{AreRecordsOf-kept, AreRecordsOf-later, AreRecordsOf-lost, AreRecordsOf-none, predecessors}
 use Rattle.session.specs.declared.started_job.JobOrigin.{JobOrigin}
 use Rattle.session.specs.declared.started_job.StartedJob.{StartedJob}
 use Rattle.session.specs.World.{nth_from_one}
 use Rattle.session.specs.inside.Records.{AreOfVersions, HasItsOrigin, HaveSomePlans, IsOriginOf, IsRecordOf, IsRecordOfRun}
 use Rattle.session.proofs.Attempting.{IsNewJob}
+use Rattle.session.proofs.Finishing.{AreStepsOf}
 
 origin_later : (plans : List Plan) (s t : State) (job : JobValue) (o : Option JobOrigin) → AreVersionsOf s t → IfSome o (IsOriginOf plans s job) → IfSome o (IsOriginOf plans t job)
 origin_later plans s t job None same is = tt
@@ -155,3 +157,19 @@ pub record_of_job : (plan own : Plan) (graph flat : Digraph) (made : Option RunR
     → IfSome made (λ r. IsRecordOfRun plan r graph)
 record_of_job plan own graph flat None plans graphs is = tt
 record_of_job plan own graph flat (Some r) plans graphs is = (is.0 ∙ plans, is.1 ∙ graphs)
+
+-- a new session has nothing beside its versions
+pub of_nothing : (plans : List Plan) (s : State) (flats : VersionFlats) (records : VersionRecords RunRecord) (jobs : List StartedJob) → AreOf s flats → HaveNone records → jobs ≡ []
+    → AreOfVersions plans s flats records jobs
+of_nothing plans s flats records jobs are none empty = record {
+  are_flats = are;
+  are_records = AreRecordsOf-none (IsRecordOf plans) s records none;
+  have_origins = subst (All (HasItsOrigin plans s)) (sym empty) (All-nil (HasItsOrigin plans s));
+}
+
+-- a job of some plan that was stepped, and then stepped again
+pub stepped_again : (old mid new : JobValue) → AreStepsOf old mid → AreStepsOf mid new → AreStepsOf old new
+stepped_again old mid new one other p s planned reduces =
+    let first = one p s planned reduces in
+    let same : mid.plan ≡ old.plan = ap (λ (j : JobValue). j.plan) first.is in
+    stepped_twice p s old mid new planned first (other p s (subst (λ (q : Plan). IsPlan q p s) (sym same) planned) reduces)

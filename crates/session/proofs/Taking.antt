@@ -31,7 +31,7 @@ numbered_map f xs (suc index) = slice_get-map f xs index
 -- what a number finds among the values of a list, if the list itself is lent
 pub mapped_found : {A B : Type 0} (f : A → B) (values : List B) (items lent : List A) (number : ℕ) (found : Option A) → values ≡ map f items → lent ≡ items → found ≡ nth_from_one lent number
     → nth_from_one values number ≡ option_map f found
-mapped_found f values items lent number found are lies is =
+mapped_found {B = B} f values items lent number found are lies is =
     ap (λ (ys : List B). nth_from_one ys number) are ∙ numbered_map f items number
     ∙ ap (option_map f) (ap (λ xs. nth_from_one xs number) (sym lies) ∙ sym is)
 

@@ -47,15 +47,16 @@ pub invariant_of-self-in_err-job : goal.invariant_of-self-in_err-job
 invariant_of-self-in_err-job c =
     let s = c.self.inside.versions.state in
     let inside = c.self.inside in
-    with_flats (map arc_value inside.plans.items) s inside.flats _ inside.records inside.jobs.items
+    with_flats (map arc_value inside.plans.items) s inside.flats c.flat.new.self inside.records inside.jobs.items
     c.flat.ensures.are_of c.self.invariant
 
 pub invariant_of-self-in_err-push : goal.invariant_of-self-in_err-push
 invariant_of-self-in_err-push c =
     let s = c.self.inside.versions.state in
     let inside = c.self.inside in
-    with_flats (map arc_value inside.plans.items) s inside.flats _ inside.records inside.jobs.items
-    c.flat.ensures.are_of c.self.invariant
+    let plans = map arc_value inside.plans.items in
+    subst (λ (js : List StartedJob). AreOfVersions plans s c.flat.new.self inside.records js) (sym c.in_err-push.ensures.items)
+    (with_flats plans s inside.flats c.flat.new.self inside.records inside.jobs.items c.flat.ensures.are_of c.self.invariant)
 
 pub invariant_of-self-2 : goal.invariant_of-self-2
 invariant_of-self-2 c =
@@ -67,15 +68,15 @@ invariant_of-self-2 c =
     let flat = arc_value c.in_ok-flat.flat in
     let held : IsHeld s c.args.ticket c.in-Some-kept.version c.in-Some-kept.graph.now =
     subst (λ (found : Option (ℕ × Bor Digraph)). MatchOption found (ticket_version s.open_tickets c.args.ticket ≡ None) (λ v. IsHeld s c.args.ticket v.0 v.1.now)) c.in-Some-kept.is c.kept.ensures in
-    let are = with_flats plans s inside.flats _ inside.records inside.jobs.items
+    let are = with_flats plans s inside.flats c.flat.new.self inside.records inside.jobs.items
     c.flat.ensures.are_of c.self.invariant in
     let found : nth_from_one plans c.args.program ≡ Some (arc_value c.in-Some.plan.now) =
     mapped_found arc_value plans inside.plans.items c.deref.result.now c.args.program (Some c.in-Some.plan.now) refl c.deref.ensures.value
     (subst (λ found. option_copied found ≡ nth_from_one c.deref.result.now c.args.program) c.in-Some.is c.numbered_in.ensures) in
     let same_plan = plan_of_new own flat c.args.turns job c.in_ok-job.ensures ∙ c.in_ok-clone.ensures.cases in
     let same_graph = graph_of_new own flat c.args.turns job c.in_ok-job.ensures ∙ c.in_ok-flat.ensures.flat in
-    subst (λ (js : List StartedJob). AreOfVersions plans s _ inside.records js) (sym c.in_ok-push.ensures.items)
-    (with_started plans s _ inside.records inside.jobs.items (record { origin = Some (record { program = c.args.program; version = c.in-Some-kept.version }); job = job })
+    subst (λ (js : List StartedJob). AreOfVersions plans s c.flat.new.self inside.records js) (sym c.in_ok-push.ensures.items)
+    (with_started plans s c.flat.new.self inside.records inside.jobs.items (record { origin = Some (record { program = c.args.program; version = c.in-Some-kept.version }); job = job })
     (record { plan = found ∙ ap Some (sym same_plan); made = held.made; graph = same_graph ∙ held.graph }) are)
 
 pub returns-clause-attempts : goal.returns-clause-attempts
