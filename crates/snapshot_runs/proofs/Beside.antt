@@ -1,6 +1,7 @@
 -- A version beside that of a former run.
-use Rattle.std.proofs.Common.{◌≡◌, ℕ, Option, Some, None, IfSome, Vec, Global, List, sym, ap, ◌∙◌, subst, arith}
+use Rattle.std.proofs.Common.{◌≡◌, ℕ, Bool, true, false, MatchBool, Option, Some, None, IfSome, Vec, Global, List, refl, sym, ap, ◌∙◌, subst, arith}
 use Rattle.std.proofs.lemmas.List.{take_all}
+use Rattle.std.specs.Prelude.{⊤}
 use mathlib.Core.List.{IsPrefix}
 use Rattle.tree_batch.specs.declared.batch.Entry.{Entry as Change}
 use Rattle.tree_batch.specs.Digraph.{Digraph, empty_graph, graph_through}
@@ -11,7 +12,7 @@ use Rattle.version_list.specs.Timeline.{IsLegal}
 use Rattle.version_list.proofs.Stepping.{newest_graph_is}
 use Rattle.shared_graph.specs.declared.entry.Entry.{Entry}
 use Rattle.shared_graph.specs.Differences.{AreEdgesSince}
-use Rattle.shared_graph.specs.Histories.{batches_of, state_at, steps_of, IsNewest, IsVersionOf}
+use Rattle.shared_graph.specs.Histories.{batches_of, fold_of_first, state_at, steps_of, IsNewest, IsVersionOf}
 use Rattle.shared_graph.proofs.Versions.{graph_at, newest_is, version_stays}
 use Rattle.snapshot_runs.specs.inside.Beside.{AreAlikeBut}
 
@@ -45,3 +46,16 @@ pub alike_given : (n room : ℕ) (shown history : List Entry) (k number : ℕ) (
 alike_given n room shown history k number graph former None legal newest begins was since = tt
 alike_given n room shown history k number graph former (Some ends) legal newest begins was since =
     alike_but n room shown history k number graph former ends.items legal newest begins was since
+
+-- if one of two histories begins the other, a number is that of one version in both
+pub one_version : (n : ℕ) (b : Bool) (first second : List Entry) (k m : ℕ) (a g : Digraph) → MatchBool b (IsPrefix first second) (IsPrefix second first) → k ≡ m
+    → IsVersionOf n first k a → IsVersionOf n second m g → a ≡ g
+one_version n true first second k m a g begins same was is =
+    (version_stays n first second k a begins was).graph_is ∙ ap (fold_of_first n second) same ∙ sym is.graph_is
+one_version n false first second k m a g begins same was is =
+    was.graph_is ∙ ap (fold_of_first n first) same ∙ sym (version_stays n second first m g begins is).graph_is
+
+-- what follows if a test holds
+pub if_tested : {A P : Type 0} (b : Bool) → (b ≡ true → A) → (A → P) → MatchBool b P ⊤
+if_tested true holds then = then (holds refl)
+if_tested false holds then = tt

@@ -1,5 +1,5 @@
 -- A run on the newest version, and its record.
-use Rattle.std.proofs.Common.{◌≡◌, ℕ, Option, Some, None, IfSome, List, sym, ◌∙◌, subst}
+use Rattle.std.proofs.Common.{◌≡◌, ℕ, Option, Some, None, IfSome, IfOk, Result, Ok, Err, List, sym, ◌∙◌, subst}
 use Rattle.std.specs.Arc.{arc_value}
 use Rattle.algorithm_meaning.specs.declared.outcome.Outcome.{Outcome}
 use Rattle.algorithm_meaning.specs.Meaning.{meaning}
@@ -19,7 +19,7 @@ use Rattle.shared_graph.specs.declared.entry.Entry.{Entry}
 use Rattle.shared_graph.specs.Histories.{state_at, steps_of, IsNewest, IsVersionOf}
 use Rattle.shared_graph.proofs.Versions.{newest_is}
 use Rattle.snapshot_runs.specs.Outcome.{IsOutcomeOn}
-use Rattle.snapshot_runs.specs.inside.Recorded.{IsRecordedRun}
+use Rattle.snapshot_runs.specs.inside.Recorded.{IsRecordedOn, IsRecordedRun}
 use Rattle.snapshot_runs.proofs.Beside.{newest_version}
 
 -- what a run means for each program of its plan it means for that of a compiled plan
@@ -42,3 +42,13 @@ recorded_run n room turns plan shown number graph flat run legal newest same mea
       outcome = subst (λ (d : Digraph). IsOutcomeOn plan d turns run.outcome) (same ∙ is.1) means;
       recorded = kept_of n plan shown number graph flat run.run_record (newest_version n room shown number graph legal newest) same kept;
     }
+
+on_graph : {E : Type 0} (plan : Plan) (graph : Digraph) (turns : ℕ) (r : Result RecordedRun E) → IfOk r (λ run. IsOutcomeOn plan graph turns run.outcome)
+    → IfOk r (λ run. IfSome run.run_record (λ made. (arc_value made.plan ≡ plan) × (arc_value made.graph ≡ graph))) → IfOk r (IsRecordedOn plan graph turns)
+on_graph plan graph turns (Ok run) means kept = record { outcome = means; recorded = kept }
+on_graph plan graph turns (Err e) means kept = tt
+
+-- a run on a graph, which is this one
+pub recorded_on : {E : Type 0} (plan : Plan) (graph flat : Digraph) (turns : ℕ) (r : Result RecordedRun E) → flat ≡ graph → IfOk r (λ run. IsOutcomeOn plan flat turns run.outcome)
+    → IfOk r (λ run. IfSome run.run_record (λ made. (arc_value made.plan ≡ plan) × (arc_value made.graph ≡ flat))) → IfOk r (IsRecordedOn plan graph turns)
+recorded_on plan graph flat turns r same means kept = subst (λ (g : Digraph). IfOk r (IsRecordedOn plan g turns)) same (on_graph plan flat turns r means kept)
