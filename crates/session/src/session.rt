@@ -129,7 +129,7 @@ impl Session {
     /// # Example
     ///
     /// ```
-    /// session.finish(alloc, job)?;
+    /// let reply = session.finish(alloc, job)?;
     /// ```
     pub fn finish(&mut self, alloc: Global, job: u64) -> Result<SessionReply, SessionError>
         ensures finishes { (programs : List ScheduledProgram) (w : World) → IsAt programs w self.old
