@@ -31,6 +31,7 @@ mod graph;
 mod laws;
 mod middle;
 mod neighbours;
+mod sorted;
 mod transposed;
 mod updates;
 mod vertices;

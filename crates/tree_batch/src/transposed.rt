@@ -11,7 +11,7 @@ use crate::cuts::changed;
 use crate::forked::change_forked;
 use crate::updates::SortedUpdates;
 use c_tree::ChunkSize;
-use edge_updates::{Columns, EdgeUpdate, Updates, sort_transposed, sort_transposed_forked};
+use edge_updates::{Columns, EdgeUpdate, Updates};
 use set_ops::{Fork, Forking};
 use shared_tree::{Changed, Tree};
 use std::alloc::{AllocError, Global};
@@ -27,15 +27,11 @@ impl SortedUpdates {
             → decided_weight (sorted_pairs s) p ≡ decided_weight (sorted_pairs self) (p.1, p.0)) }
     {
         match self {
-            SortedUpdates::Unweighted(mut updates) => {
-                let mut scratch = Vec::new(alloc);
-                sort_transposed(&mut updates, &mut scratch)?;
-                Ok(SortedUpdates::Unweighted(updates))
+            SortedUpdates::Unweighted(sorted) => {
+                Ok(SortedUpdates::Unweighted(sorted.transposed(alloc)?))
             }
-            SortedUpdates::Weighted(mut updates) => {
-                let mut scratch = Vec::new(alloc);
-                sort_transposed(&mut updates, &mut scratch)?;
-                Ok(SortedUpdates::Weighted(updates))
+            SortedUpdates::Weighted(sorted) => {
+                Ok(SortedUpdates::Weighted(sorted.transposed(alloc)?))
             }
         }
     }
@@ -52,13 +48,13 @@ impl SortedUpdates {
             → decided_weight (sorted_pairs s) p ≡ decided_weight (sorted_pairs self) (p.1, p.0)) }
     {
         match self {
-            SortedUpdates::Unweighted(mut updates) => {
-                sort_transposed_forked(rt, alloc, &mut updates)?;
-                Ok(SortedUpdates::Unweighted(updates))
+            SortedUpdates::Unweighted(sorted) => {
+                let transposed = sorted.transposed_forked(rt, alloc)?;
+                Ok(SortedUpdates::Unweighted(transposed))
             }
-            SortedUpdates::Weighted(mut updates) => {
-                sort_transposed_forked(rt, alloc, &mut updates)?;
-                Ok(SortedUpdates::Weighted(updates))
+            SortedUpdates::Weighted(sorted) => {
+                let transposed = sorted.transposed_forked(rt, alloc)?;
+                Ok(SortedUpdates::Weighted(transposed))
             }
         }
     }
@@ -74,11 +70,12 @@ impl SortedUpdates {
         ensures { IfOk result (λ c. IsChangedTree (sorted_pairs self.now) tree.now.entries c) }
     {
         match self {
-            SortedUpdates::Unweighted(updates) => {
-                changed(alloc, tree, &with_unit_weights(updates), chunk_size)
+            SortedUpdates::Unweighted(sorted) => {
+                let lent = with_unit_weights(&sorted.updates);
+                changed(alloc, tree, &lent, chunk_size)
             }
-            SortedUpdates::Weighted(pairs) => {
-                let columns = Columns::of(alloc, pairs)?;
+            SortedUpdates::Weighted(sorted) => {
+                let columns = Columns::of(alloc, &sorted.updates)?;
                 changed(alloc, tree, &columns.lend(), chunk_size)
             }
         }
@@ -98,12 +95,12 @@ impl SortedUpdates {
         ensures { IfOk result (λ c. IsChangedTree (sorted_pairs self.now) tree.now.entries c) }
     {
         match self {
-            SortedUpdates::Unweighted(updates) => {
-                let lent = with_unit_weights(updates);
+            SortedUpdates::Unweighted(sorted) => {
+                let lent = with_unit_weights(&sorted.updates);
                 change_forked(rt, alloc, tree, &lent, chunk_size, forking)
             }
-            SortedUpdates::Weighted(pairs) => {
-                let columns = Columns::of(alloc, pairs)?;
+            SortedUpdates::Weighted(sorted) => {
+                let columns = Columns::of(alloc, &sorted.updates)?;
                 let lent = columns.lend();
                 change_forked(rt, alloc, tree, &lent, chunk_size, forking)
             }

@@ -1,6 +1,6 @@
 //! What a batch says of edges, as updates.
 
-ghost use Rattle.std.specs.Prelude.{◌≡◌, IfOk, OnOk, false, map};
+ghost use Rattle.std.specs.Prelude.{◌≡◌, IfOk, false, map};
 ghost use Rattle.std.specs.List.{All, list_any};
 ghost use Rattle.std.specs.Option.{option_map};
 ghost use Rattle.std.specs.Map.{keys_of};
@@ -11,7 +11,8 @@ ghost use Rattle.tree_batch.specs.inside.Entry.{IsUpdateOf, NamesWithin};
 ghost use Rattle.tree_batch.specs.inside.Sorted.{sorted_pairs};
 
 use crate::batch::{Batch, Entry};
-use edge_updates::{EdgeUpdate, Update, WeightedUpdate, keep_last, sort, sort_forked};
+use crate::sorted::Sorted;
+use edge_updates::{EdgeUpdate, WeightedUpdate};
 use std::alloc::{AllocError, Global};
 use std::thread::Threads;
 
@@ -19,8 +20,8 @@ use std::thread::Threads;
 #[derive(Drop)]
 pub(crate) enum SortedUpdates {
     /// Every added edge has weight 1.
-    Unweighted(Vec<EdgeUpdate>),
-    Weighted(Vec<WeightedUpdate>),
+    Unweighted(Sorted<EdgeUpdate>),
+    Weighted(Sorted<WeightedUpdate>),
 }
 
 /// What a batch says of edges. A batch in which every added edge has weight 1 is sorted without weights.
@@ -31,13 +32,11 @@ pub(crate) fn updates(alloc: Global, batch: &Batch) -> Result<SortedUpdates, All
         → decided_weight (sorted_pairs s) p ≡ decision batch.now p) }
 {
     if batch.is_weighted() {
-        let mut updates = unsorted_with_weights(alloc, batch)?;
-        sort_lasts(alloc, &mut updates)?;
-        return Ok(SortedUpdates::Weighted(updates));
+        let updates = unsorted_with_weights(alloc, batch)?;
+        return Ok(SortedUpdates::Weighted(Sorted::new(alloc, updates)?));
     }
-    let mut updates = unsorted(alloc, batch)?;
-    sort_lasts(alloc, &mut updates)?;
-    Ok(SortedUpdates::Unweighted(updates))
+    let updates = unsorted(alloc, batch)?;
+    Ok(SortedUpdates::Unweighted(Sorted::new(alloc, updates)?))
 }
 
 /// Like `updates`, sorted by as many threads as there are processors.
@@ -52,40 +51,13 @@ pub(crate) fn updates_forked<R: Threads + Sync>(
         → decided_weight (sorted_pairs s) p ≡ decision batch.now p) }
 {
     if batch.is_weighted() {
-        let mut updates = unsorted_with_weights(alloc, batch)?;
-        sort_lasts_forked(rt, alloc, &mut updates)?;
-        return Ok(SortedUpdates::Weighted(updates));
+        let updates = unsorted_with_weights(alloc, batch)?;
+        let sorted = Sorted::new_forked(rt, alloc, updates)?;
+        return Ok(SortedUpdates::Weighted(sorted));
     }
-    let mut updates = unsorted(alloc, batch)?;
-    sort_lasts_forked(rt, alloc, &mut updates)?;
-    Ok(SortedUpdates::Unweighted(updates))
-}
-
-/// Sorts updates by edge, and keeps the last of each edge.
-fn sort_lasts<T: Update>(alloc: Global, updates: &mut Vec<T>) -> Result<(), AllocError>
-    ensures order { OnOk result (Ascend (keys_of (map T.pair_of updates.new.items))) }
-    ensures same { OnOk result ((p : Ends) → decided_weight (map T.pair_of updates.new.items) p
-        ≡ decided_weight (map T.pair_of updates.old.items) p) }
-{
-    let mut scratch = Vec::new(alloc);
-    sort(updates, &mut scratch)?;
-    keep_last(updates);
-    Ok(())
-}
-
-/// Like `sort_lasts`, by as many threads as there are processors.
-fn sort_lasts_forked<T: Update + Send, R: Threads + Sync>(
-    rt: &R,
-    alloc: Global,
-    updates: &mut Vec<T>,
-) -> Result<(), AllocError>
-    ensures order { OnOk result (Ascend (keys_of (map T.pair_of updates.new.items))) }
-    ensures same { OnOk result ((p : Ends) → decided_weight (map T.pair_of updates.new.items) p
-        ≡ decided_weight (map T.pair_of updates.old.items) p) }
-{
-    sort_forked(rt, alloc, updates)?;
-    keep_last(updates);
-    Ok(())
+    let updates = unsorted(alloc, batch)?;
+    let sorted = Sorted::new_forked(rt, alloc, updates)?;
+    Ok(SortedUpdates::Unweighted(sorted))
 }
 
 /// What the entries of a batch say of edges, in their order, if each added edge has weight 1.

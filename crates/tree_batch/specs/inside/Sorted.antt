@@ -8,5 +8,5 @@ use Rattle.tree_batch.specs.declared.updates.SortedUpdates.TheVariants as sorted
 
 -- each update with its weight
 abbrev pub sorted_pairs : SortedUpdates → List (EdgeUpdate × ℤ)
-sorted_pairs (sorted.Unweighted us) = map unit_pair us.items
-sorted_pairs (sorted.Weighted us) = pairs_in us.items
+sorted_pairs (sorted.Unweighted s) = map unit_pair s.updates.items
+sorted_pairs (sorted.Weighted s) = pairs_in s.updates.items
