@@ -82,8 +82,8 @@ impl<N: SourceNumbers> SourceFold for AllSources<'_, N> {
     }
 }
 
-/// The entry reduced with the numbers of those sources of a packed list that pass. The reduction and the mask are the same for
-/// the whole list, so that a loop is made for each.
+/// The entry reduced with the numbers of those sources of a packed list that pass. A loop is made for each reduction, with a mask
+/// and without one, so that none asks for them at a source.
 #[inline(always)]
 fn fold_list<N: SourceNumbers>(
     fold: &AllSources<'_, N>,
@@ -94,25 +94,88 @@ fn fold_list<N: SourceNumbers>(
     requires { AreMasked fold.now.reduction (N.number fold.now.numbers) (passes_words from) fold.now.masked.now }
     ensures { result ≡ reduced_over fold.now.reduction (λ s _. N.number fold.now.numbers s) old (passing (passes_words from.entry) sources.now) }
 {
+    let reduction = fold.reduction;
+    if fold.masked.is_empty() {
+        return fold_by(reduction, &fold.numbers, &[], old, sources, from);
+    }
+    fold_by(reduction, &fold.numbers, fold.masked, old, sources, from)
+}
+
+/// The entry reduced with the numbers of those sources of a packed list that pass, by a loop for each reduction.
+#[inline(always)]
+fn fold_by<N: SourceNumbers>(
+    reduction: Reduction,
+    numbers: &N,
+    masked: &[i64],
+    old: i64,
+    sources: &Neighbours<'_>,
+    from: Option<&[u64]>,
+) -> i64
+    requires { AreMasked reduction (N.number numbers.now) (passes_words from) masked.now }
+    ensures { result ≡ reduced_over reduction (λ s _. N.number numbers.now s) old (passing (passes_words from.entry) sources.now) }
+{
+    match reduction {
+        Reduction::Min => fold_each(Reduction::Min, numbers, masked, old, sources, from),
+        Reduction::Max => fold_each(Reduction::Max, numbers, masked, old, sources, from),
+        Reduction::Plus => fold_each(Reduction::Plus, numbers, masked, old, sources, from),
+    }
+}
+
+/// The entry reduced with the numbers of those sources of a packed list that pass, one by one.
+#[inline(always)]
+fn fold_each<N: SourceNumbers>(
+    reduction: Reduction,
+    numbers: &N,
+    masked: &[i64],
+    old: i64,
+    sources: &Neighbours<'_>,
+    from: Option<&[u64]>,
+) -> i64
+    requires { AreMasked reduction (N.number numbers.now) (passes_words from) masked.now }
+    ensures { result ≡ reduced_over reduction (λ s _. N.number numbers.now s) old (passing (passes_words from.entry) sources.now) }
+{
     let mut number = old;
     'sources: for index in 0..sources.len() {
-        let given = given_by(fold, from, sources.neighbour(index));
-        number = reduce(fold.reduction, number, given);
+        let given = given_by(reduction, numbers, masked, from, sources.neighbour(index));
+        number = reduce(reduction, number, given);
     }
     number
 }
 
 /// The number of a source that passes, and the unit for another.
 #[inline(always)]
-fn given_by<N: SourceNumbers>(fold: &AllSources<'_, N>, from: Option<&[u64]>, source: u32) -> i64
-    requires { AreMasked fold.now.reduction (N.number fold.now.numbers) (passes_words from) fold.now.masked.now }
-    ensures { result ≡ number_or_unit fold.now.reduction (N.number fold.now.numbers) (passes_words from.entry) source }
+fn given_by<N: SourceNumbers>(
+    reduction: Reduction,
+    numbers: &N,
+    masked: &[i64],
+    from: Option<&[u64]>,
+    source: u32,
+) -> i64
+    requires { AreMasked reduction (N.number numbers.now) (passes_words from) masked.now }
+    ensures { result ≡ number_or_unit reduction (N.number numbers.now) (passes_words from.entry) source }
 {
     let index = source as usize;
-    if fold.masked.is_empty() || index >= fold.masked.len() {
-        return number_or_unit(fold.reduction, &fold.numbers, from, source);
+    if masked.is_empty() {
+        return number_or_unit(reduction, numbers, from, source);
     }
-    fold.masked[index]
+    if index < masked.len() {
+        return masked[index];
+    }
+    number_beyond(reduction, numbers, from, source)
+}
+
+/// The number of a source beyond a mask, which no graph has.
+#[cold]
+#[inline(never)]
+fn number_beyond<N: SourceNumbers>(
+    reduction: Reduction,
+    numbers: &N,
+    from: Option<&[u64]>,
+    source: u32,
+) -> i64
+    ensures { result ≡ number_or_unit reduction (N.number numbers.now) (passes_words from.entry) source }
+{
+    number_or_unit(reduction, numbers, from, source)
 }
 
 /// The numbers of so many vertices that pass, with the unit of a reduction for others. The only error is out of memory.

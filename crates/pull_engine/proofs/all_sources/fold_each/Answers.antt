@@ -1,4 +1,4 @@
--- Proofs of `fold_list`, src/all_sources.rt.
+-- Proofs of `fold_each`, src/all_sources.rt.
 use Rattle.std.proofs.Common.{rules, ◌<◌, ◌≤◌, ℕ, ℤ, length, slice_index, refl, cond, FitsSigned, to_z, w64, ap, sym, ◌∙◌, arith}
 use Rattle.std.specs.List.{filter}
 use Rattle.std.specs.Map.{keys_of}
@@ -10,13 +10,13 @@ use Rattle.edge_fold.specs.ReducedContributions.{reduced_with}
 use Rattle.pull_engine.proofs.EntryFolds.{over_passing}
 use Rattle.pull_engine.proofs.ListFolds.{all_folded, one_folded}
 use Rattle.pull_engine.proofs.Masking.{reduced_masked}
-use Rattle.pull_engine.proofs.all_sources.fold_list.Goals as goal
+use Rattle.pull_engine.proofs.all_sources.fold_each.Goals as goal
 
 pub sources-preserved : goal.sources-preserved
 sources-preserved g c =
     let p = passes_words c.args.from in
-    let r = c.args.fold.now.reduction in
-    let number = g.N.SourceNumbers.number c.args.fold.now.numbers in
+    let r = c.args.reduction in
+    let number = g.N.SourceNumbers.number c.args.numbers.now in
     let xs = keys_of c.args.sources.now in
     let i = c.sources.index in
     let source = c.neighbour.result in
@@ -37,8 +37,8 @@ sources-preserved g c =
 pub returns : goal.returns
 returns g c =
     let p = passes_words c.args.from in
-    let r = c.args.fold.now.reduction in
-    let number = g.N.SourceNumbers.number c.args.fold.now.numbers in
+    let r = c.args.reduction in
+    let number = g.N.SourceNumbers.number c.args.numbers.now in
     let xs = keys_of c.args.sources.now in
     let fits : FitsSigned w64 c.args.old = search rules in
     let long = length-keys_of c.args.sources.now in
