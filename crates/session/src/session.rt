@@ -119,7 +119,7 @@ impl Session {
     }
 
     /// Steps a job until it has ended, and answers as the last of these steps is answered: how the job has ended, or
-    /// `Of(Refused(413))` where no job has the number, which changes nothing. A job that has ended stays as it is.
+    /// `Of(Refused(413))` if no job has the number, which changes nothing. A job that has ended stays as it is.
     ///
     /// A job that has done nothing follows the record of a former run of its program, if there is one on a version of which few
     /// edges differ. It does the same instructions, and may take less time.

@@ -89,7 +89,7 @@ impl StartedJob {
 }
 
 /// Finishes a job of a program on a version that is kept, beside the record of a former run if there is one, and keeps the
-/// record of its run. If memory is refused for a record, it goes on without one.
+/// record of its run. If memory is refused for a record, the run has none.
 fn finish_kept(
     alloc: Global,
     versions: &Versions,

@@ -126,7 +126,7 @@ impl<J: Naming> Runs<J> {
 /// outcome is what the plan's program means within the turns on the fold of their batches, whoever commits, holds or releases
 /// meanwhile, and whatever the workers and the gate. Each reader of the graph may be given, also another than before.
 ///
-/// Errors: `BadWorkers` where the number of workers is not 1 to 64, else `Closed` where nothing is published, and the reader is
+/// Errors: `BadWorkers` if the number of workers is not 1 to 64, else `Closed` if nothing is published, and the reader is
 /// then as it was; else `NoMemory`, and then the history shown begins with the one before. What is kept of the runs before is
 /// then as it was.
 ///
@@ -172,7 +172,7 @@ pub fn run_latest_after<J: Naming, R: Threads + Sync, G: Gate + Sync>(
 /// The outcome is what the plan's program means within the turns on the fold of the first batches of the history at whose end the
 /// version was held, as many as the version's number says, whatever was committed since.
 ///
-/// Errors: `BadWorkers` where the number of workers is not 1 to 64, else `NoMemory`. What is kept of the runs before is then as it
+/// Errors: `BadWorkers` if the number of workers is not 1 to 64, else `NoMemory`. What is kept of the runs before is then as it
 /// was.
 ///
 /// # Example
