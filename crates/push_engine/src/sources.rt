@@ -230,7 +230,7 @@ fn fold_row(
 }
 
 /// Folds the edges from a source to the neighbours of a packed list, in a loop for each width.
-#[inline]
+#[inline(always)]
 fn fold_list(
     alloc: Global,
     input: RowInput<'_>,
