@@ -1,5 +1,5 @@
 //! A cut of all vertices of a graph that is kept from pull to pull.
-ghost use Rattle.std.specs.Prelude.{IfOk};
+ghost use Rattle.std.specs.Prelude.{IfOk, IfSome};
 ghost use Rattle.flat_snapshot.specs.Digraph.{Digraph};
 ghost use Rattle.pull_engine.specs.KeptCut.{IsCutFor, IsCutOf};
 
@@ -9,39 +9,14 @@ use crew::{Partition, WorkerCount};
 use flat_snapshot::Flat;
 use std::alloc::{AllocError, Global};
 
-/// Where all vertices of a graph are cut for so many workers, as a schedule says.
-#[derive(Drop)]
-pub(crate) struct Cut {
-    parallelization: Parallelization,
-    workers: WorkerCount,
-    partition: Partition,
-}
-
-impl Cut {
-    /// The cut of the same graph for n workers, as a schedule says: this one if it is so, and else a new one.
-    fn partition_for(
-        self,
-        alloc: Global,
-        parallelization: Parallelization,
-        workers: WorkerCount,
-        flat: &Flat,
-    ) -> Result<Partition, AllocError>
-        requires { IsCutFor self.parallelization self.workers flat.now self.partition }
-        ensures { IfOk result (IsCutFor parallelization workers flat.now) }
-    {
-        if self.parallelization == parallelization && self.workers.get() == workers.get() {
-            Ok(self.partition)
-        } else {
-            partition_vertices(alloc, parallelization, workers, flat)
-        }
-    }
-}
-
 /// The cut of all vertices of a graph that the last pull in pieces had, so that the next one need not make it again. It is for
 /// one graph.
 #[derive(Drop)]
 pub struct KeptCut {
-    cut: Option<Cut>,
+    /// As which schedule says, and for how many workers, the vertices are cut.
+    parallelization: Parallelization,
+    workers: usize,
+    partition: Option<Partition>,
 }
 
 impl KeptCut {
@@ -49,11 +24,15 @@ impl KeptCut {
     pub fn new() -> KeptCut
         ensures { (g : Digraph) → IsCutOf result g }
     {
-        KeptCut { cut: None }
+        KeptCut {
+            parallelization: Parallelization::Serial,
+            workers: 0,
+            partition: None,
+        }
     }
 
-    /// Takes the cut of the vertices of a graph for n workers, as a schedule says, and leaves nothing. It is made if another one, or
-    /// none, is kept. The only error is out of memory.
+    /// Takes the cut of the vertices of a graph for n workers, as a schedule says. It is made if another one, or none, is kept. The
+    /// only error is out of memory.
     pub(crate) fn take(
         &mut self,
         alloc: Global,
@@ -62,12 +41,30 @@ impl KeptCut {
         flat: &Flat,
     ) -> Result<Partition, AllocError>
         requires { IsCutOf self.old flat.now }
-        ensures cut { IfOk result (IsCutFor parallelization workers flat.now) }
-        ensures left { (g : Digraph) → IsCutOf self.new g }
+        ensures taken { IfOk result (IsCutFor parallelization workers flat.now) }
+        ensures left { IsCutOf self.new flat.now }
     {
-        match self.cut.take() {
-            Some(cut) => cut.partition_for(alloc, parallelization, workers, flat),
+        match self.take_kept(parallelization, workers) {
+            Some(partition) => Ok(partition),
             None => partition_vertices(alloc, parallelization, workers, flat),
+        }
+    }
+
+    /// Takes the cut that is kept, if it is for n workers, as a schedule says.
+    fn take_kept(
+        &mut self,
+        parallelization: Parallelization,
+        workers: WorkerCount,
+    ) -> Option<Partition>
+        ensures taken { (g : Digraph) → IsCutOf self.old g → IfSome result (IsCutFor parallelization workers g) }
+        ensures left { (g : Digraph) → IsCutOf self.old g → IsCutOf self.new g }
+    {
+        let has_schedule = self.parallelization == parallelization;
+        let has_workers = self.workers == workers.get();
+        if has_schedule && has_workers {
+            self.partition.take()
+        } else {
+            None
         }
     }
 
@@ -80,10 +77,8 @@ impl KeptCut {
     )
         ensures { (g : Digraph) → IsCutFor parallelization workers g partition → IsCutOf self.new g }
     {
-        self.cut = Some(Cut {
-            parallelization,
-            workers,
-            partition,
-        });
+        self.parallelization = parallelization;
+        self.workers = workers.get();
+        self.partition = Some(partition);
     }
 }

@@ -120,7 +120,7 @@ impl<'a> PullWork<'a> {
 
     /// Where all vertices are cut.
     pub(crate) fn into_partition(self) -> Partition
-        ensures { result ≡ self.partition }
+        ensures { result ≡ self.entry.partition }
     {
         let PullWork {
             apply: _,

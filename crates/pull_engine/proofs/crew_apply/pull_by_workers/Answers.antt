@@ -27,4 +27,4 @@ pub returns-clause-cut : goal.returns-clause-cut
 returns-clause-cut g c =
     let a = c.args.apply.now in
     c.keep.ensures a.flat.now
-    (subst (IsCutFor a.parallelization c.args.workers.now.count a.flat.now) (sym (c.into_partition.ensures ∙ c.in_ok-work.ensures.partition)) c.in_ok-partition.ensures.cut)
+    (subst (IsCutFor a.parallelization c.args.workers.now.count a.flat.now) (sym (c.into_partition.ensures ∙ c.in_ok-work.ensures.partition)) c.in_ok-partition.ensures.taken)
