@@ -4,7 +4,9 @@ ghost use Rattle.crew.specs.declared.error.CrewError.TheVariants.{BadWorkers, No
 ghost use Rattle.crew.specs.Outcome.{AreWorkers};
 ghost use Rattle.edge_fold.specs.Changed.{AreApart};
 ghost use Rattle.edge_apply.specs.Applied.{AreChangesOf};
+ghost use Rattle.pull_engine.specs.KeptCut.{IsCutOf};
 
+use crate::kept_cut::KeptCut;
 use crate::work::PullWork;
 use crew::{CrewError, Gate, PieceAssignment, WorkerCount, Workers};
 use edge_apply::Apply;
@@ -42,27 +44,37 @@ pub fn pull_crew<R: Threads + Sync, G: Gate + Sync>(
         return Err(CrewError::BadWorkers);
     };
     let workers = Workers { rt, gate, count };
-    Ok(pull_by_workers(&workers, alloc, apply, scratch, states)?)
+    let mut cut = KeptCut::new();
+    Ok(pull_by_workers(&workers, alloc, apply, &mut cut, scratch, states)?)
 }
 
-/// What an apply of edge functions changes, as [`pull_crew`] says, by these workers. The only error is out of memory.
+/// What an apply of edge functions changes, as [`pull_crew`] says, by these workers. `cut` is for the graph of the apply, and stays
+/// so, whatever becomes of the apply. If it has the cut of the schedule for so many workers, no cut is made. The only error is out
+/// of memory.
 pub fn pull_by_workers<R: Threads + Sync, G: Gate + Sync>(
     workers: &Workers<'_, R, G>,
     alloc: Global,
     apply: &Apply<'_>,
+    cut: &mut KeptCut,
     scratch: &mut Scratch,
     states: &mut Vec<Scratch>,
 ) -> Result<Changes, AllocError>
+    requires { IsCutOf cut.old apply.now.flat.now }
     ensures once { IfOk result (λ c. AreApart c.vectors.items) }
     ensures changes { IfOk result (λ c. AreChangesOf apply.now c.vectors.items) }
+    ensures cut { IsCutOf cut.new apply.now.flat.now }
 {
-    let work = PullWork::for_workers(alloc, apply, workers.count, scratch)?;
+    let (parallelization, count) = (apply.parallelization, workers.count);
+    let partition = cut.take(alloc, parallelization, count, apply.flat)?;
+    let work = PullWork::of_partition(alloc, apply, partition, scratch)?;
     let pieces = work.pieces();
     // A graph has fewer vertices.
     if pieces > u32::MAX as usize {
         return Err(AllocError);
     }
-    let assignment = PieceAssignment::of(apply.parallelization);
+    let assignment = PieceAssignment::of(parallelization);
     let found = workers.run_pieces(alloc, pieces, assignment, &work, states)?;
-    work.merge(alloc, &found, scratch)
+    let changes = work.merge(alloc, &found, scratch)?;
+    cut.keep(parallelization, count, work.into_partition());
+    Ok(changes)
 }

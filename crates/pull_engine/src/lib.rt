@@ -26,7 +26,8 @@
 //! (`crew::Partition`), a piece answers what the edges into its destinations give, and [`PullWork::merge`] makes the changes of
 //! the whole of all answers, in whatever order they come. By a function of such a shape a piece answers what changes at its
 //! vertices, and the merge puts the lists one after the other. [`pull_crew`] has the pieces done by 1 to 64 workers. The promise of
-//! both is that of [`pull`].
+//! both is that of [`pull`]. [`pull_by_workers`] does the same for workers who pull again and again on one graph: where its vertices
+//! are cut is kept from pull to pull ([`KeptCut`]).
 //!
 //! Push and pull are those of Ligra's edge map (Shun, Blelloch, PPoPP 2013).
 #![tactic(auto)]
@@ -42,6 +43,7 @@ mod destinations;
 mod early_sources;
 mod entry_tests;
 mod in_degrees;
+mod kept_cut;
 mod listed;
 mod masks;
 mod pieces;
@@ -55,4 +57,5 @@ mod work;
 pub use changes::pull;
 pub use crew_apply::{pull_by_workers, pull_crew};
 pub use early_sources::one_source_decides;
+pub use kept_cut::KeptCut;
 pub use work::PullWork;

@@ -88,24 +88,24 @@ impl<'a> PullWork<'a> {
         let Some(count) = WorkerCount::new(workers) else {
             return Err(CrewError::BadWorkers);
         };
-        Ok(PullWork::for_workers(alloc, apply, count, scratch)?)
+        let partition = partition_vertices(alloc, apply.parallelization, count, apply.flat)?;
+        Ok(PullWork::of_partition(alloc, apply, partition, scratch)?)
     }
 
-    /// The pieces of an apply for these workers, as [`PullWork::new`] says. The only error is out of memory.
-    pub(crate) fn for_workers(
+    /// The pieces of an apply if all vertices are cut so, as [`PullWork::new`] says. The only error is out of memory.
+    pub(crate) fn of_partition(
         alloc: Global,
         apply: &Apply<'a>,
-        count: WorkerCount,
+        partition: Partition,
         scratch: &mut Scratch,
     ) -> Result<PullWork<'a>, AllocError>
+        requires { AreEnds 0 apply.now.flat.now.vertices partition }
         ensures apply { IfOk result (λ w. w.apply ≡ apply.now) }
-        ensures partition { IfOk result (λ w. w.partition ≡ boundaries apply.now.parallelization count apply.now.flat.now.vertices
-            (map (λ v. length (sources_of v apply.now.flat.now.edges)) (range_with_len 0 apply.now.flat.now.vertices))) }
+        ensures partition { IfOk result (λ w. w.partition ≡ partition) }
     {
         let context = apply.context(FoldStart::Unit);
         let sources = SourceWords::of(alloc, apply.from, context, scratch)?;
         let members = member_bits(alloc, apply.to)?;
-        let partition = partition_vertices(alloc, apply.parallelization, count, apply.flat)?;
         let shape = apply_shape(apply.first, apply.second);
         let masked = mask_of(alloc, shape, apply, sources.words())?;
         Ok(PullWork {
@@ -116,5 +116,20 @@ impl<'a> PullWork<'a> {
             shape,
             masked,
         })
+    }
+
+    /// Where all vertices are cut.
+    pub(crate) fn into_partition(self) -> Partition
+        ensures { result ≡ self.entry.partition }
+    {
+        let PullWork {
+            apply: _,
+            sources: _,
+            members: _,
+            partition,
+            shape: _,
+            masked: _,
+        } = self;
+        partition
     }
 }

@@ -191,13 +191,13 @@ impl<E: ApplyEngine> Follower<'_, E> {
         asked: EdgeMap,
         apply: &Apply<'_>,
     ) -> Result<Changes, AllocError>
-        requires engine { E.is_ready self.old.by }
+        requires engine { E.is_ready self.old.by run.graph.now }
         requires former { IfSome self.old.former (IsBeside run.functions.now run.graph.now) }
         requires known { IfSome self.old.former (AreKnownOf run.vectors.now.vectors) }
         requires apply { IsApplyOfRun run asked apply.now }
         ensures once { IfOk result (λ c. AreApart c.vectors.items) }
         ensures changes { IfOk result (λ c. AreChangesReduced apply.now c.vectors.items) }
-        ensures engine { E.is_ready self.new.by }
+        ensures engine { E.is_ready self.new.by run.entry.graph.now }
         ensures former { IfSome self.new.former (IsBeside run.entry.functions.now run.entry.graph.now) }
         ensures known { IfOk result (λ c. IfSome self.new.former (AreKnownOf (with_all_changes c.vectors.items run.entry.vectors.now.vectors))) }
         ensures recorder { self.new.recorder ≡ self.old.recorder }
@@ -211,7 +211,7 @@ impl<E: ApplyEngine> Follower<'_, E> {
 }
 
 impl<E: ApplyEngine + Drop> EdgeApplier for Follower<'_, E> {
-    ghost is_ready = { λ s f g. E.is_ready s.by × IsFollower f g s };
+    ghost is_ready = { λ s f g. E.is_ready s.by g × IsFollower f g s };
 
     ghost knows = { λ s vectors. Knows s vectors };
 

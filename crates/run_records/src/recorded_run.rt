@@ -12,6 +12,7 @@ ghost use Rattle.run_state.specs.State.{graph_value};
 ghost use Rattle.edge_fold.specs.Changed.{AreApart};
 ghost use Rattle.edge_apply.specs.Applied.{AreChangesOf};
 ghost use Rattle.runner.specs.HybridSources.{traversal_of};
+ghost use Rattle.runner.specs.KeptCut.{IsCutOf};
 ghost use Rattle.run_records.specs.Former.{IsFormerOf};
 ghost use Rattle.run_records.specs.inside.Follower.{IsFollower};
 
@@ -23,7 +24,7 @@ use edge_apply::Apply;
 use edge_fold::Scratch;
 use flat_snapshot::Flat;
 use plans::Plan;
-use runner::{ApplyEngine, ParallelApplier, Traversal, run_by, run_by_workers, traverse};
+use runner::{ApplyEngine, KeptCut, ParallelApplier, Traversal, run_by, run_by_workers, traverse};
 use std::alloc::{AllocError, Global};
 use std::sync::Arc;
 use std::thread::Threads;
@@ -54,7 +55,7 @@ pub fn run_recorded<E: ApplyEngine + Drop>(
     turns: u64,
     by: E,
 ) -> Result<RecordedRun, AllocError>
-    requires { E.is_ready by }
+    requires { E.is_ready by (arc_value graph) }
     ensures means { IfOk result (λ r. (p : ProgramTree) (s : ScheduleTree) → IsPlan (arc_value plan) p s → AppliesReduce p (plan_of p s)
         → r.outcome ≡ meaning p (graph_value (arc_value graph)) turns) }
     ensures kept { IfOk result (λ r. IfSome r.run_record (λ made. (made.plan ≡ plan) × (made.graph ≡ graph))) }
@@ -75,7 +76,7 @@ pub fn run_after<E: ApplyEngine + Drop>(
     turns: u64,
     by: E,
 ) -> Result<RecordedRun, AllocError>
-    requires engine { E.is_ready by }
+    requires engine { E.is_ready by (arc_value graph) }
     requires vertices { (arc_value former.now.graph).vertices ≡ (arc_value graph).vertices }
     requires edges { AreSameBut edges.now (arc_value graph).edges (arc_value former.now.graph).edges }
     ensures means { IfOk result (λ r. (p : ProgramTree) (s : ScheduleTree) → IsPlan (arc_value former.now.plan) p s → AppliesReduce p (plan_of p s)
@@ -134,14 +135,15 @@ fn recorded_by<R: Threads + Sync, G: Gate + Sync>(
         alloc,
         |alloc: Global, apply: Apply<
             '_,
-        >, traversal: Traversal, scratch: &mut Scratch, states: &mut Vec<Scratch>| -> Result<
-            Changes,
-            AllocError,
-        >
-            requires { traversal ≡ traversal_of apply }
+        >, traversal: Traversal, cut: &mut KeptCut, scratch: &mut Scratch, states: &mut Vec<
+            Scratch,
+        >| -> Result<Changes, AllocError>
+            requires traversal { traversal ≡ traversal_of apply }
+            requires cut { IsCutOf cut.old apply.flat.now }
             ensures once { IfOk result (λ c. AreApart c.vectors.items) }
             ensures changes { IfOk result (λ c. AreChangesOf apply.entry c.vectors.items) }
-        { traverse(workers, alloc, &apply, traversal, scratch, states) },
+            ensures cut { IsCutOf cut.new apply.entry.flat.now }
+        { traverse(workers, alloc, &apply, traversal, cut, scratch, states) },
     );
     let graph = graph.clone()?;
     match former {
@@ -161,7 +163,7 @@ fn run_with<E: ApplyEngine + Drop>(
     turns: u64,
     mut follower: Follower<'_, E>,
 ) -> Result<RecordedRun, AllocError>
-    requires engine { E.is_ready follower.by }
+    requires engine { E.is_ready follower.by (arc_value graph) }
     requires follower { IsFollower (arc_value plan).functions (arc_value graph) follower }
     ensures means { IfOk result (λ r. (p : ProgramTree) (s : ScheduleTree) → IsPlan (arc_value plan) p s → AppliesReduce p (plan_of p s)
         → r.outcome ≡ meaning p (graph_value (arc_value graph)) turns) }

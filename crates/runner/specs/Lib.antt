@@ -5,3 +5,4 @@ pub mod Job
 pub mod RunRefusal
 pub mod HybridSources
 pub mod inside
+pub use Rattle.pull_engine.specs.KeptCut

@@ -4,6 +4,7 @@ ghost use Rattle.edge_fold.specs.Changed.{AreApart};
 ghost use Rattle.edge_apply.specs.Applied.{AreChangesOf};
 ghost use Rattle.flat_snapshot.specs.Digraph.{Digraph};
 ghost use Rattle.plans.specs.declared.functions.FunctionKernels.{FunctionKernels};
+ghost use Rattle.pull_engine.specs.KeptCut.{IsCutOf};
 ghost use Rattle.runner.specs.EdgeMap.{AreChangesOfApply};
 ghost use Rattle.runner.specs.HybridSources.{AreSourcesOf, traversal_of};
 ghost use Rattle.runner.specs.declared.direction.Traversal.TheVariants as way;
@@ -13,7 +14,7 @@ use crate::direction::{Traversal, hybrid_sources};
 use crate::edge_maps::EdgeMap;
 use edge_apply::Apply;
 use edge_fold::Scratch;
-use pull_engine::pull;
+use pull_engine::{KeptCut, pull};
 use push_engine::push;
 use run_state::RunView;
 use std::alloc::{AllocError, Global};
@@ -56,42 +57,42 @@ pub trait EdgeApplier {
         ensures knows { IfOk result (λ c. knows self.new (with_all_changes c.vectors.items run.entry.vectors.now.vectors)) };
 }
 
-/// The engines: what an apply changes, by push or by pull, by one worker or many. They keep nothing of a run, and serve any
-/// apply after one that they have done, whatever became of that.
+/// The engines: what an apply changes, by push or by pull, by one worker or many. They keep nothing of a run but what they know of
+/// its graph, and serve any apply on this graph after one that they have done, whatever became of that.
 pub trait ApplyEngine {
-    /// They do applies as they promise.
-    ghost is_ready: { Self → Type 0 };
+    /// They do applies on this graph as they promise.
+    ghost is_ready: { Self → Digraph → Type 0 };
 
     /// The sources of a hybrid that a filter lets through, in a set, and none for other applies. Each vertex is tested once.
     /// The only error is out of memory.
     fn sources(&mut self, alloc: Global, apply: &Apply<'_>) -> Result<Option<VertexSet>, AllocError>
-        requires { is_ready self.old }
+        requires { is_ready self.old apply.now.flat.now }
         ensures sources { IfOk result (AreSourcesOf apply.now) }
-        ensures ready { is_ready self.new };
+        ensures ready { is_ready self.new apply.now.flat.now };
 
     /// What an apply changes, by a push from its sources: for each vector that a function has given something one list of
     /// changes, by ascending vertices, and a vector without one does not change. It promises so for each vector that has an
     /// entry for each vertex and to which the functions give by one reduction. The vectors stay as they are, and so does the
     /// graph. The sources of a hybrid are all vertices or members of a set. The only error is out of memory.
     fn push(&mut self, alloc: Global, apply: Apply<'_>) -> Result<Changes, AllocError>
-        requires ready { is_ready self.old }
+        requires ready { is_ready self.old apply.flat.now }
         requires sources { AreSourcesOf apply None }
         requires traversal { traversal_of apply ≡ way.Push }
         ensures once { IfOk result (λ c. AreApart c.vectors.items) }
         ensures changes { IfOk result (λ c. AreChangesOf apply.entry c.vectors.items) }
-        ensures ready { is_ready self.new };
+        ensures ready { is_ready self.new apply.entry.flat.now };
 
     /// What an apply changes, by a pull into its destinations, as [`ApplyEngine::push`] says.
     fn pull(&mut self, alloc: Global, apply: Apply<'_>) -> Result<Changes, AllocError>
-        requires ready { is_ready self.old }
+        requires ready { is_ready self.old apply.flat.now }
         requires sources { AreSourcesOf apply None }
         requires traversal { traversal_of apply ≡ way.Pull }
         ensures once { IfOk result (λ c. AreApart c.vectors.items) }
         ensures changes { IfOk result (λ c. AreChangesOf apply.entry c.vectors.items) }
-        ensures ready { is_ready self.new };
+        ensures ready { is_ready self.new apply.entry.flat.now };
 }
 
-/// One worker, with the memory that its applies use again and again.
+/// One worker, with the memory that its applies use again and again, on any graph.
 pub struct SerialApplier {
     scratch: Scratch,
 }
@@ -112,7 +113,7 @@ impl SerialApplier {
 }
 
 impl ApplyEngine for SerialApplier {
-    ghost is_ready = { λ _. Unit {0} };
+    ghost is_ready = { λ _ _. Unit {0} };
 
     fn sources(
         &mut self,
@@ -131,10 +132,11 @@ impl ApplyEngine for SerialApplier {
     }
 }
 
-/// Workers that do applies by a closure, and the memory that these use again and again: a scratch for the caller, and one for
-/// each worker of an apply in pieces.
+/// Workers that do applies by a closure, and the memory that these use again and again: the cut of the graph's vertices, a scratch
+/// for the caller, and one for each worker of an apply in pieces.
 pub struct ParallelApplier<F> {
     by: F,
+    cut: KeptCut,
     scratch: Scratch,
     states: Vec<Scratch>,
 }
@@ -143,6 +145,7 @@ impl<F: Drop> Drop for ParallelApplier<F> {
     fn drop(self) {
         let ParallelApplier {
             by: _,
+            cut: _,
             scratch: _,
             states: _,
         } = self;
@@ -150,12 +153,14 @@ impl<F: Drop> Drop for ParallelApplier<F> {
 }
 
 impl<F> ParallelApplier<F> {
-    /// It has taken no memory yet.
+    /// It has taken no memory yet, and may be for any graph.
     pub fn new(alloc: Global, by: F) -> ParallelApplier<F>
-        ensures { result.by ≡ by }
+        ensures by { result.by ≡ by }
+        ensures cut { (g : Digraph) → IsCutOf result.cut g }
     {
         ParallelApplier {
             by,
+            cut: KeptCut::new(),
             scratch: Scratch::new(alloc),
             states: Vec::new(alloc),
         }
@@ -167,16 +172,19 @@ impl<
         Global,
         Apply<'_>,
         Traversal,
+        &mut KeptCut,
         &mut Scratch,
         &mut Vec<Scratch>,
     ) -> Result<Changes, AllocError>,
 > ApplyEngine for ParallelApplier<F> {
-    // The closure may be called with the direction of an apply, and gives what the apply changes.
-    ghost is_ready = { λ s. ((alloc : _) (apply : _) (traversal : _) (scratch : _) (states : _) → traversal ≡ traversal_of apply
-        → F.pre s.by alloc apply traversal scratch states)
-        × ((alloc : _) (apply : _) (traversal : _) (scratch : _) (states : _) (r : _) (scratch_after : _) (states_after : _)
-        → F.post s.by alloc apply traversal scratch states r scratch_after states_after
-        → IfOk r (λ c. AreApart c.vectors.items) × IfOk r (λ c. AreChangesOf apply c.vectors.items)) };
+    // What is kept is the cut of this graph. The closure may be called with the direction of an apply and a cut of its graph, gives
+    // what the apply changes, and leaves a cut of its graph.
+    ghost is_ready = { λ s g. IsCutOf s.cut g
+        × ((alloc : _) (apply : _) (traversal : _) (cut : _) (scratch : _) (states : _) → traversal ≡ traversal_of apply
+        → IsCutOf cut.now apply.flat.now → F.pre s.by alloc apply traversal cut scratch states)
+        × ((alloc : _) (apply : _) (traversal : _) (cut : _) (scratch : _) (states : _) (r : _) (cut_after : _) (scratch_after : _)
+        (states_after : _) → F.post s.by alloc apply traversal cut scratch states r cut_after scratch_after states_after
+        → IfOk r (λ c. AreApart c.vectors.items) × IfOk r (λ c. AreChangesOf apply c.vectors.items) × IsCutOf cut_after.now apply.flat.now) };
 
     fn sources(
         &mut self,
@@ -187,12 +195,12 @@ impl<
     }
 
     fn push(&mut self, alloc: Global, apply: Apply<'_>) -> Result<Changes, AllocError> {
-        let (scratch, states) = (&mut self.scratch, &mut self.states);
-        (self.by)(alloc, apply, Traversal::Push, scratch, states)
+        let (cut, scratch, states) = (&mut self.cut, &mut self.scratch, &mut self.states);
+        (self.by)(alloc, apply, Traversal::Push, cut, scratch, states)
     }
 
     fn pull(&mut self, alloc: Global, apply: Apply<'_>) -> Result<Changes, AllocError> {
-        let (scratch, states) = (&mut self.scratch, &mut self.states);
-        (self.by)(alloc, apply, Traversal::Pull, scratch, states)
+        let (cut, scratch, states) = (&mut self.cut, &mut self.scratch, &mut self.states);
+        (self.by)(alloc, apply, Traversal::Pull, cut, scratch, states)
     }
 }

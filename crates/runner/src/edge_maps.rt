@@ -37,7 +37,7 @@ pub struct EdgeMap {
 }
 
 impl<E: ApplyEngine> EdgeApplier for E {
-    ghost is_ready = { λ s _ _. E.is_ready s };
+    ghost is_ready = { λ s _ graph. E.is_ready s graph };
 
     ghost knows = { λ _ _. Unit {0} };
 
@@ -62,16 +62,16 @@ impl<E: ApplyEngine> EdgeApplier for E {
 /// The hybrid goes by [`crate::pick_direction`]. If all sources pass it pulls, and a filter of sources is run for each vertex,
 /// once.
 ///
-/// The only error is out of memory. Who does the apply serves any apply after this one, whatever became of it.
+/// The only error is out of memory. Who does the apply serves any apply on this graph after this one, whatever became of it.
 pub fn edge_map<E: ApplyEngine>(
     alloc: Global,
     apply: Apply<'_>,
     by: &mut E,
 ) -> Result<Changes, AllocError>
-    requires { E.is_ready by.old }
+    requires { E.is_ready by.old apply.flat.now }
     ensures once { IfOk result (λ c. AreApart c.vectors.items) }
     ensures changes { IfOk result (λ c. AreChangesOf apply.entry c.vectors.items) }
-    ensures ready { E.is_ready by.new }
+    ensures ready { E.is_ready by.new apply.entry.flat.now }
 {
     let sources = by.sources(alloc, &apply)?;
     let apply = from_sources(apply, &sources);
@@ -85,6 +85,7 @@ pub fn edge_map<E: ApplyEngine>(
 fn from_sources<'a>(apply: Apply<'a>, sources: &'a Option<VertexSet>) -> Apply<'a>
     requires { AreSourcesOf apply sources.now }
     ensures sources { AreSourcesOf result None }
+    ensures graph { result.flat.now ≡ apply.entry.flat.now }
     ensures changes { (cs : List VectorChanges) → AreChangesOf result cs → AreChangesOf apply.entry cs }
 {
     match sources {

@@ -13,7 +13,7 @@
 //! pull ([`Traversal`]), and gives what the apply changes: written to the vectors, the changes are those after the apply
 //! (`after_edge_apply` of `algorithm_meaning`). The promise is for a program whose functions give each vector numbers by one
 //! reduction (`specs/Reducing.antt` of `plans`). A [`SerialApplier`] goes over the edges by one worker, and a
-//! [`ParallelApplier`] by many. [`pick_direction`] is the rule of the hybrid: it pulls if the sources and the edges from them
+//! [`ParallelApplier`] by many, who keep where the vertices of their graph are cut. [`pick_direction`] is the rule of the hybrid: it pulls if the sources and the edges from them
 //! are more than a twentieth of all edges. That rule, and the name of the operator, are those of Ligra (Shun, Blelloch, PPoPP
 //! 2013).
 //!
@@ -45,6 +45,7 @@ pub use direction::{Traversal, pick_direction};
 pub use edge_applier::{ApplyEngine, EdgeApplier, ParallelApplier, SerialApplier};
 pub use edge_maps::{EdgeMap, apply_of, edge_map};
 pub use job::{Job, Stand};
+pub use pull_engine::KeptCut;
 pub use run_error::RunError;
 pub use traversal::traverse;
 pub use whole_run::{run, run_alone, run_by, run_by_workers};

@@ -2,6 +2,7 @@
 ghost use Rattle.std.specs.Prelude.{◌≡◌, None, Some, IfOk};
 ghost use Rattle.edge_fold.specs.Changed.{AreApart};
 ghost use Rattle.edge_apply.specs.Applied.{AreChangesOf};
+ghost use Rattle.pull_engine.specs.KeptCut.{IsCutOf};
 ghost use Rattle.runner.specs.inside.Employment.{AreEmployed, work_of};
 ghost use Rattle.runner.specs.HybridSources.{traversal_of};
 
@@ -10,7 +11,7 @@ use crate::employment::{employed, work_up_to};
 use crew::{Gate, WorkerCount, Workers};
 use edge_apply::Apply;
 use edge_fold::Scratch;
-use pull_engine::{pull, pull_by_workers};
+use pull_engine::{KeptCut, pull, pull_by_workers};
 use push_engine::{push, push_by_workers};
 use std::alloc::{AllocError, Global};
 use std::thread::Threads;
@@ -21,19 +22,22 @@ use vectors::Changes;
 /// If somebody watches the gate, the apply is done in the pieces of its schedule, by all workers. Else fewer do
 /// it if it has fewer edges, and one as a whole.
 ///
-/// The only error is out of memory. `scratch` is the caller's, and `states` has those of workers; both serve any apply
-/// after this one, whatever became of it.
+/// The only error is out of memory. `cut` is for the graph of the apply, and stays so. `scratch` is the caller's, and `states` has
+/// those of workers; both serve any apply after this one, whatever became of it.
 pub fn traverse<R: Threads + Sync, G: Gate + Sync>(
     workers: &Workers<'_, R, G>,
     alloc: Global,
     apply: &Apply<'_>,
     traversal: Traversal,
+    cut: &mut KeptCut,
     scratch: &mut Scratch,
     states: &mut Vec<Scratch>,
 ) -> Result<Changes, AllocError>
-    requires { traversal ≡ traversal_of apply.now }
+    requires traversal { traversal ≡ traversal_of apply.now }
+    requires cut { IsCutOf cut.old apply.now.flat.now }
     ensures once { IfOk result (λ c. AreApart c.vectors.items) }
     ensures changes { IfOk result (λ c. AreChangesOf apply.now c.vectors.items) }
+    ensures cut { IsCutOf cut.new apply.now.flat.now }
 {
     match employed_by(workers, apply, traversal) {
         None => traverse_alone(workers.count, alloc, apply, traversal, scratch),
@@ -44,7 +48,9 @@ pub fn traverse<R: Threads + Sync, G: Gate + Sync>(
                 gate: workers.gate,
                 count,
             };
-            traverse_in_pieces(&employed, all, alloc, apply, traversal, scratch, states)
+            traverse_in_pieces(
+                &employed, all, alloc, apply, traversal, cut, scratch, states,
+            )
         }
     }
 }
@@ -90,16 +96,19 @@ fn traverse_in_pieces<R: Threads + Sync, G: Gate + Sync>(
     alloc: Global,
     apply: &Apply<'_>,
     traversal: Traversal,
+    cut: &mut KeptCut,
     scratch: &mut Scratch,
     states: &mut Vec<Scratch>,
 ) -> Result<Changes, AllocError>
     requires traversal { traversal ≡ traversal_of apply.now }
     requires employed { AreEmployed apply.now.parallelization all (work_of traversal apply.now) (Some workers.now.count) }
+    requires cut { IsCutOf cut.old apply.now.flat.now }
     ensures once { IfOk result (λ c. AreApart c.vectors.items) }
     ensures changes { IfOk result (λ c. AreChangesOf apply.now c.vectors.items) }
+    ensures cut { IsCutOf cut.new apply.now.flat.now }
 {
     match traversal {
         Traversal::Push => push_by_workers(workers, alloc, apply, scratch, states),
-        Traversal::Pull => pull_by_workers(workers, alloc, apply, scratch, states),
+        Traversal::Pull => pull_by_workers(workers, alloc, apply, cut, scratch, states),
     }
 }

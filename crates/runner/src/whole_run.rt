@@ -10,6 +10,7 @@ ghost use Rattle.crew.specs.Outcome.{AreWorkers};
 ghost use Rattle.run_state.specs.State.{graph_value};
 ghost use Rattle.edge_fold.specs.Changed.{AreApart};
 ghost use Rattle.edge_apply.specs.Applied.{AreChangesOf};
+ghost use Rattle.pull_engine.specs.KeptCut.{IsCutOf};
 ghost use Rattle.runner.specs.HybridSources.{traversal_of};
 ghost use Rattle.runner.specs.declared.run_error.RunError.TheVariants.{BadWorkers, NoMemory};
 
@@ -24,6 +25,7 @@ use edge_apply::Apply;
 use edge_fold::Scratch;
 use flat_snapshot::Flat;
 use plans::Plan;
+use pull_engine::KeptCut;
 use std::alloc::{AllocError, Global};
 use std::thread::Threads;
 use vectors::Changes;
@@ -121,14 +123,15 @@ pub fn run_by_workers<R: Threads + Sync, G: Gate + Sync>(
         alloc,
         |alloc: Global, apply: Apply<
             '_,
-        >, traversal: Traversal, scratch: &mut Scratch, states: &mut Vec<Scratch>| -> Result<
-            Changes,
-            AllocError,
-        >
-            requires { traversal ≡ traversal_of apply }
+        >, traversal: Traversal, cut: &mut KeptCut, scratch: &mut Scratch, states: &mut Vec<
+            Scratch,
+        >| -> Result<Changes, AllocError>
+            requires traversal { traversal ≡ traversal_of apply }
+            requires cut { IsCutOf cut.old apply.flat.now }
             ensures once { IfOk result (λ c. AreApart c.vectors.items) }
             ensures changes { IfOk result (λ c. AreChangesOf apply.entry c.vectors.items) }
-        { traverse(workers, alloc, &apply, traversal, scratch, states) },
+            ensures cut { IsCutOf cut.new apply.entry.flat.now }
+        { traverse(workers, alloc, &apply, traversal, cut, scratch, states) },
     );
     run_by(alloc, plan, graph, turns, &mut crew)
 }

@@ -1,9 +1,9 @@
--- Proofs of `for_workers`, src/work.rt.
+-- Proofs of `of_partition`, src/work.rt.
 use Rattle.std.proofs.Common.{rules}
 use Rattle.edge_apply.specs.Words.{passes_words}
 use Rattle.pull_engine.specs.inside.Sources.{is_source}
 use Rattle.pull_engine.proofs.Masking.{mask_alike}
-use Rattle.pull_engine.proofs.work.PullWork.for_workers.Goals as goal
+use Rattle.pull_engine.proofs.work.PullWork.of_partition.Goals as goal
 
 pub invariant_of-result : goal.invariant_of-result
 invariant_of-result c = record {
