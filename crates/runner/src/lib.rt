@@ -13,8 +13,8 @@
 //! pull ([`Traversal`]), and gives what the apply changes: written to the vectors, the changes are those after the apply
 //! (`after_edge_apply` of `algorithm_meaning`). The promise is for a program whose functions give each vector numbers by one
 //! reduction (`specs/Reducing.antt` of `plans`). A [`SerialApplier`] goes over the edges by one worker, and a
-//! [`ParallelApplier`] by many, who keep where the vertices of their graph are cut. [`pick_direction`] is the rule of the hybrid: it pulls if the sources and the edges from them
-//! are more than a twentieth of all edges. That rule, and the name of the operator, are those of Ligra (Shun, Blelloch, PPoPP
+//! [`ParallelApplier`] by many, who keep where the vertices of their graph are cut. [`pick_direction`] is the rule of the hybrid:
+//! it pulls if the sources and the edges from them are more than a twentieth of all edges. That rule, and the name of the operator, are those of Ligra (Shun, Blelloch, PPoPP
 //! 2013).
 //!
 //! Every value of a plan is that of some program, and so a run ends: its turns are bounded, and between two turns each
