@@ -15,7 +15,7 @@ use Rattle.typed_tree.specs.declared.statement.ApplyEnds.{ApplyEnds}
 use Rattle.typed_tree.specs.declared.statement.SetValue.{SetValue}
 use Rattle.typed_tree.specs.declared.statement.SetValue.TheVariants as set
 use Rattle.typed_tree.specs.BlockTree as action
-use Rattle.typed_tree.specs.BlockTree.{StatementKindTree}
+use Rattle.typed_tree.specs.BlockTree.{SimpleStatementTree}
 use Rattle.typed_tree.specs.ProgramTree.{ProgramTree}
 use Rattle.plans.specs.Instruction as operation
 use Rattle.plans.specs.Instruction.{OperationTree, InstructionTree}
@@ -35,7 +35,7 @@ set_kind p name (set.Copy slot) apply_schedule = refl
 set_kind p name (set.Filter slot function) apply_schedule = refl
 set_kind p name (set.Modified ends function vector) apply_schedule = refl
 
-action_kind : (p : ProgramTree) (action : StatementKindTree) (apply_schedule : ApplySchedule) → kind_in (statement_words p action apply_schedule ++ []) ≡ kind_of_action action
+action_kind : (p : ProgramTree) (action : SimpleStatementTree) (apply_schedule : ApplySchedule) → kind_in (statement_words p action apply_schedule ++ []) ≡ kind_of_action action
 action_kind p (action.DeclareInt name e) apply_schedule = refl
 action_kind p (action.DeclareBool name c) apply_schedule = refl
 action_kind p (action.SetInt slot e) apply_schedule = refl
@@ -50,10 +50,6 @@ action_kind p (action.PrintInt e) apply_schedule = refl
 action_kind p (action.PrintBool c) apply_schedule = refl
 action_kind p (action.ApplyVertex slot function) apply_schedule = refl
 action_kind p (action.ApplyEdges ends function) apply_schedule = refl
-action_kind p (action.If c body) apply_schedule = refl
-action_kind p (action.IfElse c body other) apply_schedule = refl
-action_kind p (action.While c body) apply_schedule = refl
-action_kind p (action.For name first last body) apply_schedule = refl
 
 kind_at : (p : ProgramTree) (apply_schedule : ApplySchedule) (o : OperationTree) → kind_in (operation_words p apply_schedule o ++ target_words o) ≡ instruction_kind_of o
 kind_at p apply_schedule (operation.Do action) = action_kind p action apply_schedule
@@ -78,7 +74,7 @@ no_index_of_set (set.Copy slot) words = refl
 no_index_of_set (set.Filter slot function) words = refl
 no_index_of_set (set.Modified ends function vector) words = refl
 
-no_index : (action : StatementKindTree) (words : List (List ℕ)) → index_behind (kind_of_action action) words ≡ None
+no_index : (action : SimpleStatementTree) (words : List (List ℕ)) → index_behind (kind_of_action action) words ≡ None
 no_index (action.DeclareInt name e) words = refl
 no_index (action.DeclareBool name c) words = refl
 no_index (action.SetInt slot e) words = refl
@@ -93,10 +89,6 @@ no_index (action.PrintInt e) words = refl
 no_index (action.PrintBool c) words = refl
 no_index (action.ApplyVertex slot function) words = refl
 no_index (action.ApplyEdges ends function) words = refl
-no_index (action.If c body) words = refl
-no_index (action.IfElse c body other) words = refl
-no_index (action.While c body) words = refl
-no_index (action.For name first last body) words = refl
 
 number_is : (to : ℕ) → to < 2 ^ 64 → number_of (2 ^ 64) (decimal to) ≡ Some to
 number_is to below = decimal-IsReadBack (2 ^ 64) to below below 0
@@ -178,7 +170,7 @@ set_settings p name (set.Filter slot function) apply_schedule is = absurd cc
 set_settings p name (set.Modified ends function vector) apply_schedule is =
     edges_are p ends (one_part function (Some (record { name = name; vector = vector }))) None apply_schedule
 
-action_settings : (p : ProgramTree) (action : StatementKindTree) (apply_schedule : ApplySchedule) → kind_of_action action ≡ Some ApplyEdges
+action_settings : (p : ProgramTree) (action : SimpleStatementTree) (apply_schedule : ApplySchedule) → kind_of_action action ≡ Some ApplyEdges
     → settings_in (statement_words p action apply_schedule ++ []) ≡ Some (settings_used apply_schedule)
 action_settings p (action.DeclareInt name e) apply_schedule is = absurd cc
 action_settings p (action.DeclareBool name c) apply_schedule is = absurd cc
@@ -194,10 +186,6 @@ action_settings p (action.PrintInt e) apply_schedule is = absurd cc
 action_settings p (action.PrintBool c) apply_schedule is = absurd cc
 action_settings p (action.ApplyVertex slot function) apply_schedule is = absurd cc
 action_settings p (action.ApplyEdges ends function) apply_schedule is = edges_are p ends (one_part function None) None apply_schedule
-action_settings p (action.If c body) apply_schedule is = absurd cc
-action_settings p (action.IfElse c body other) apply_schedule is = absurd cc
-action_settings p (action.While c body) apply_schedule is = absurd cc
-action_settings p (action.For name first last body) apply_schedule is = absurd cc
 
 settings_at : (p : ProgramTree) (apply_schedule : ApplySchedule) (o : OperationTree) → instruction_kind_of o ≡ Some ApplyEdges
     → settings_in (operation_words p apply_schedule o ++ target_words o) ≡ Some (settings_used apply_schedule)

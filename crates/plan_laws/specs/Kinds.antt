@@ -5,7 +5,7 @@ use Rattle.std.specs.Str.{bytes_eq}
 use Rattle.typed_tree.specs.declared.statement.SetValue.{SetValue}
 use Rattle.typed_tree.specs.declared.statement.SetValue.TheVariants as set
 use Rattle.typed_tree.specs.BlockTree as action
-use Rattle.typed_tree.specs.BlockTree.{StatementKindTree}
+use Rattle.typed_tree.specs.BlockTree.{SimpleStatementTree}
 use Rattle.typed_tree.specs.ProgramTree.{ProgramTree}
 use Rattle.plans.specs.Instruction as operation
 use Rattle.plans.specs.Instruction.{OperationTree, InstructionTree}
@@ -61,7 +61,7 @@ kind_of_set (set.Copy slot) = CopySet
 kind_of_set (set.Filter slot function) = Filter
 kind_of_set (set.Modified ends function vector) = ApplyEdges
 
-abbrev pub kind_of_action : StatementKindTree → Option InstructionKind
+abbrev pub kind_of_action : SimpleStatementTree → Option InstructionKind
 kind_of_action (action.DeclareInt name e) = Some Set
 kind_of_action (action.DeclareBool name c) = Some Set
 kind_of_action (action.SetInt slot e) = Some Set
@@ -76,10 +76,6 @@ kind_of_action (action.PrintInt e) = Some Print
 kind_of_action (action.PrintBool c) = Some Print
 kind_of_action (action.ApplyVertex slot function) = Some ApplyVertices
 kind_of_action (action.ApplyEdges ends function) = Some ApplyEdges
-kind_of_action (action.If c body) = None
-kind_of_action (action.IfElse c body other) = None
-kind_of_action (action.While c body) = None
-kind_of_action (action.For name first last body) = None
 
 abbrev pub instruction_kind_of : OperationTree → Option InstructionKind
 instruction_kind_of (operation.Do action) = kind_of_action action

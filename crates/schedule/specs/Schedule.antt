@@ -18,7 +18,8 @@ use Rattle.typed_tree.specs.ProgramTree.{ProgramTree}
 use Rattle.typed_tree.specs.declared.statement.SetValue.{SetValue}
 use Rattle.typed_tree.specs.declared.apply.StatementApply.{StatementApply}
 use Rattle.typed_tree.specs.declared.apply.StatementApply.TheVariants.{Edges, Vertices}
-use Rattle.typed_tree.specs.BlockTree.{StatementKindTree, Simple, ApplyVertex, ApplyEdges, DeclareSet, AssignSet, BlockTree, Empty, Then, If, IfElse, While, For}
+use Rattle.typed_tree.specs.BlockTree.{ApplyVertex, ApplyEdges, DeclareSet, AssignSet}
+use Rattle.typed_tree.specs.BlockTree.{StatementKindTree, Simple, If, IfElse, While, For, BlockTree, Empty, Then}
 use Rattle.typed_tree.specs.declared.statement.SetValue.TheVariants as value
 use Rattle.schedule.specs.declared.site.Site.{Site}
 

@@ -61,7 +61,8 @@ declared_so : (c : CheckerTree) (at : ℕ) (name : Identifier) (i : InitializerT
 declared_so c at name i declared.Int =
     sym (bind-bind (initializer_integer at i) (λ e. sure (entity.IntVariable (integer_slot c), Simple (DeclareInt (length c.names) e))) (visible_then c name))
 declared_so c at name i declared.Bool =
-    sym (bind-bind (initializer_condition at i) (λ e. sure (entity.BoolVariable (condition_slot c), Simple (DeclareBool (length c.names) e))) (visible_then c name))
+    sym (bind-bind (initializer_condition at i) (λ e. sure (entity.BoolVariable (condition_slot c), Simple (DeclareBool (length c.names) e)))
+    (visible_then c name))
 declared_so c at name i declared.VertexSet =
     sym (bind-bind (initializer_members at i) (λ s. sure (entity.SetVariable (set_slot c), Simple (DeclareSet (length c.names) s))) (visible_then c name))
 declared_so c at name i declared.Vertex = refl
