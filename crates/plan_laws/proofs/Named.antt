@@ -41,7 +41,7 @@ set_names p name (set.Filter slot function) apply_schedule = refl
 set_names p name (set.Modified ends function vector) apply_schedule = refl
 
 action_names : (p : ProgramTree) (action : SimpleStatementTree) (apply_schedule : ApplySchedule)
-    → names_of_kind (kind_of_action action) (statement_words p action apply_schedule ++ []) ≡ names_of_action p action
+    → names_of_kind (Some (kind_of_action action)) (statement_words p action apply_schedule ++ []) ≡ names_of_action p action
 action_names p (action.DeclareInt name e) apply_schedule = refl
 action_names p (action.DeclareBool name c) apply_schedule = refl
 action_names p (action.SetInt slot e) apply_schedule = refl
@@ -57,7 +57,7 @@ action_names p (action.PrintBool c) apply_schedule = refl
 action_names p (action.ApplyVertex slot function) apply_schedule = refl
 action_names p (action.ApplyEdges ends function) apply_schedule = refl
 
-names_at : (p : ProgramTree) (apply_schedule : ApplySchedule) (o : OperationTree) → names_of_kind (instruction_kind_of o) (operation_words p apply_schedule o ++ target_words o) ≡ names_of p o
+names_at : (p : ProgramTree) (apply_schedule : ApplySchedule) (o : OperationTree) → names_of_kind (Some (instruction_kind_of o)) (operation_words p apply_schedule o ++ target_words o) ≡ names_of p o
 names_at p apply_schedule (operation.Do action) = action_names p action apply_schedule
 names_at p apply_schedule (operation.ApplyEdgesTogether ends first second) = refl
 names_at p apply_schedule (operation.ApplyVerticesTogether slot first second) = refl
@@ -86,7 +86,7 @@ no_reduction_of_set (set.Filter slot function) words = refl
 no_reduction_of_set (set.Modified ends function vector) words = refl
 
 action_reduction : (p : ProgramTree) (action : SimpleStatementTree) (apply_schedule : ApplySchedule)
-    → reduction_after (kind_of_action action) (statement_words p action apply_schedule ++ []) ≡ reduction_of (operation.Do action)
+    → reduction_after (Some (kind_of_action action)) (statement_words p action apply_schedule ++ []) ≡ reduction_of (operation.Do action)
 action_reduction p (action.DeclareInt name e) apply_schedule = refl
 action_reduction p (action.DeclareBool name c) apply_schedule = refl
 action_reduction p (action.SetInt slot e) apply_schedule = refl
@@ -102,7 +102,8 @@ action_reduction p (action.PrintBool c) apply_schedule = refl
 action_reduction p (action.ApplyVertex slot function) apply_schedule = refl
 action_reduction p (action.ApplyEdges ends function) apply_schedule = refl
 
-reduction_at : (p : ProgramTree) (apply_schedule : ApplySchedule) (o : OperationTree) → reduction_after (instruction_kind_of o) (operation_words p apply_schedule o ++ target_words o) ≡ reduction_of o
+reduction_at : (p : ProgramTree) (apply_schedule : ApplySchedule) (o : OperationTree)
+    → reduction_after (Some (instruction_kind_of o)) (operation_words p apply_schedule o ++ target_words o) ≡ reduction_of o
 reduction_at p apply_schedule (operation.Do action) = action_reduction p action apply_schedule
 reduction_at p apply_schedule (operation.ApplyEdgesTogether ends first second) = refl
 reduction_at p apply_schedule (operation.ApplyVerticesTogether slot first second) = refl
@@ -220,7 +221,7 @@ set_edges p name (set.Modified ends function vector) make apply_schedule none sa
     (sym (same vector))
 
 action_edges : (p : ProgramTree) (action : SimpleStatementTree) (apply_schedule : ApplySchedule) → HasNoMarks p
-    → edges_behind (kind_of_action action) (statement_words p action apply_schedule ++ []) ≡ edges_of p (operation.Do action)
+    → edges_behind (Some (kind_of_action action)) (statement_words p action apply_schedule ++ []) ≡ edges_of p (operation.Do action)
 action_edges p (action.DeclareInt name e) apply_schedule none = refl
 action_edges p (action.DeclareBool name c) apply_schedule none = refl
 action_edges p (action.SetInt slot e) apply_schedule none = refl
@@ -248,7 +249,7 @@ both_edges p ends first second =
     ∙ ap (λ (x : Option (List ℕ × List ℕ)). with_parts from to (part_names p first) (Some (record { function = g; changed = x }))) (named_is p second.result)
 
 edges_at : (p : ProgramTree) (apply_schedule : ApplySchedule) (o : OperationTree) → HasNoMarks p
-    → edges_behind (instruction_kind_of o) (operation_words p apply_schedule o ++ target_words o) ≡ edges_of p o
+    → edges_behind (Some (instruction_kind_of o)) (operation_words p apply_schedule o ++ target_words o) ≡ edges_of p o
 edges_at p apply_schedule (operation.Do action) none = action_edges p action apply_schedule none
 edges_at p apply_schedule (operation.ApplyEdgesTogether ends first second) none =
     edges_read p ends (shown_part first) (Some (shown_part second)) apply_schedule none ∙ both_edges p ends first second

@@ -46,7 +46,7 @@ no_values names words (set.Filter slot function) = refl
 no_values names words (set.Modified ends function vector) = refl
 
 action_values : (p : ProgramTree) (names : Names) (s : StateValue) (action : SimpleStatementTree) (apply_schedule : ApplySchedule) → HasNamesOfOneWord p → ActionIsGiven p names s action
-    → read_indices names (statement_words p action apply_schedule ++ []) (bracket_indices (kind_of_action action)) ≡ values_of_action names.vertices s action
+    → read_indices names (statement_words p action apply_schedule ++ []) (bracket_indices (Some (kind_of_action action))) ≡ values_of_action names.vertices s action
 action_values p names s (action.DeclareInt name e) apply_schedule one given = one_value _ _ (integer_in_brackets p names s e one given)
 action_values p names s (action.DeclareBool name c) apply_schedule one given = one_value _ _ (condition_in_brackets p names s c one given)
 action_values p names s (action.SetInt slot e) apply_schedule one given = one_value _ _ (integer_in_brackets p names s e one given)
@@ -84,7 +84,7 @@ next_read p names name r one first =
     ∙ ap (option_and_then (read_words names (codes "1" ∷ codes "+" ∷ []))) (read_name names (program_name_at p name) (Number r.next) [] first)
 
 operation_values : (p : ProgramTree) (names : Names) (r : LoopCounter) (s : StateValue) (apply_schedule : ApplySchedule) (o : OperationTree) → HasNamesOfOneWord p → OperationIsGiven p names r s o
-    → read_indices names (operation_words p apply_schedule o ++ target_words o) (bracket_indices (instruction_kind_of o)) ≡ values_of names.vertices r s o
+    → read_indices names (operation_words p apply_schedule o ++ target_words o) (bracket_indices (Some (instruction_kind_of o))) ≡ values_of names.vertices r s o
 operation_values p names r s apply_schedule (operation.Do action) one given = action_values p names s action apply_schedule one given
 operation_values p names r s apply_schedule (operation.ApplyEdgesTogether ends first second) one given = refl
 operation_values p names r s apply_schedule (operation.ApplyVerticesTogether slot first second) one given = refl
