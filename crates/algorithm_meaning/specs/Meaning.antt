@@ -2,9 +2,9 @@
 use Rattle.std.specs.Prelude.{ℕ, suc, ℤ, pos, if◌then◌else◌, ◌==◌, List, [], ◌∷◌, map, replicate, slice_index_or, ◌-◌}
 use Rattle.weighted_edges.specs.Edge.{Edge}
 use Rattle.typed_tree.specs.declared.program.InitialValue.{InitialValue}
-use Rattle.typed_tree.specs.BlockTree.{StatementKindTree, DeclareInt, DeclareBool, SetInt, SetBool, ReduceInt, SetEntry, ReduceEntry}
-use Rattle.typed_tree.specs.BlockTree.{DeclareSet, AssignSet, AddVertex, PrintInt, PrintBool, ApplyVertex, ApplyEdges, If, IfElse, While, For}
-use Rattle.typed_tree.specs.BlockTree.{BlockTree, Empty, Then}
+use Rattle.typed_tree.specs.BlockTree.{SimpleStatementTree, DeclareInt, DeclareBool, SetInt, SetBool, ReduceInt, SetEntry, ReduceEntry}
+use Rattle.typed_tree.specs.BlockTree.{DeclareSet, AssignSet, AddVertex, PrintInt, PrintBool, ApplyVertex, ApplyEdges}
+use Rattle.typed_tree.specs.BlockTree.{StatementKindTree, Simple, If, IfElse, While, For, BlockTree, Empty, Then}
 use Rattle.typed_tree.specs.ProgramTree.{ProgramTree}
 use Rattle.typed_tree.specs.declared.program.Vector.{Vector}
 use Rattle.typed_tree.specs.declared.program.InitialValue.TheVariants as beginning
@@ -23,24 +23,28 @@ use Rattle.algorithm_meaning.specs.declared.outcome.End.{End}
 use Rattle.algorithm_meaning.specs.declared.outcome.Outcome.{Outcome}
 use Rattle.algorithm_meaning.specs.declared.outcome.End.TheVariants.{Finished}
 
+-- the state after the statement of this number, which has no block
+abbrev pub after_simple : ProgramTree → GraphValue → ℕ → SimpleStatementTree → StateValue → Stand
+after_simple p g number (DeclareInt name e) s = after_declare_int g.vertices number e s
+after_simple p g number (DeclareBool name c) s = after_declare_bool g.vertices number c s
+after_simple p g number (SetInt slot e) s = after_set_int g.vertices number slot.index e s
+after_simple p g number (SetBool slot c) s = after_set_bool g.vertices number slot.index c s
+after_simple p g number (ReduceInt slot reduction e) s = after_reduce_int g.vertices number slot.index reduction e s
+after_simple p g number (SetEntry vector subscript e) s = after_set_entry g.vertices number vector subscript e s
+after_simple p g number (ReduceEntry vector subscript reduction e) s = after_reduce_entry g.vertices number vector subscript reduction e s
+after_simple p g number (DeclareSet name set) s = Live (after_declare_set p g name set s)
+after_simple p g number (AssignSet slot set) s = Live (after_assign_set p g slot.index set s)
+after_simple p g number (AddVertex slot e) s = after_add_vertex g.vertices number slot.index e s
+after_simple p g number (PrintInt e) s = after_print_int g.vertices number e s
+after_simple p g number (PrintBool c) s = after_print_bool g.vertices number c s
+after_simple p g number (ApplyVertex set function) s = Live (after_apply_vertex p.vertex_functions set.index function s)
+after_simple p g number (ApplyEdges ends function) s =
+    Live (with_vectors s (after_edge_apply p.filters p.edge_functions g ends (function ∷ []) s))
+
 abbrev mutual
   -- the state after the statement of this number
   pub after : ProgramTree → GraphValue → ℕ → StatementKindTree → StateValue → Stand
-  after p g number (DeclareInt name e) s = after_declare_int g.vertices number e s
-  after p g number (DeclareBool name c) s = after_declare_bool g.vertices number c s
-  after p g number (SetInt slot e) s = after_set_int g.vertices number slot.index e s
-  after p g number (SetBool slot c) s = after_set_bool g.vertices number slot.index c s
-  after p g number (ReduceInt slot reduction e) s = after_reduce_int g.vertices number slot.index reduction e s
-  after p g number (SetEntry vector subscript e) s = after_set_entry g.vertices number vector subscript e s
-  after p g number (ReduceEntry vector subscript reduction e) s = after_reduce_entry g.vertices number vector subscript reduction e s
-  after p g number (DeclareSet name set) s = Live (after_declare_set p g name set s)
-  after p g number (AssignSet slot set) s = Live (after_assign_set p g slot.index set s)
-  after p g number (AddVertex slot e) s = after_add_vertex g.vertices number slot.index e s
-  after p g number (PrintInt e) s = after_print_int g.vertices number e s
-  after p g number (PrintBool c) s = after_print_bool g.vertices number c s
-  after p g number (ApplyVertex set function) s = Live (after_apply_vertex p.vertex_functions set.index function s)
-  after p g number (ApplyEdges ends function) s =
-      Live (with_vectors s (after_edge_apply p.filters p.edge_functions g ends (function ∷ []) s))
+  after p g number (Simple a) s = after_simple p g number a s
   after p g number (If c body) s =
       with_value (bool_value_in g.vertices c s) number s (λ b. choose b (inside (after_all p g body) s) (Live s))
   after p g number (IfElse c body other) s =

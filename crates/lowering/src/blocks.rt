@@ -102,7 +102,6 @@ impl Lowering<'_> {
 
     /// Puts those of a statement that is done alone.
     #[cycle(lower)]
-    #[tactic(auto, using(crate::proofs::SimpleStatements::simple_plan))]
     fn put_statement(
         self,
         statement: &MainStatement,

@@ -1,6 +1,6 @@
 //! Operations of statements without blocks, with the kernels of their expressions.
 ghost use Rattle.std.specs.Prelude.{◌≡◌, IfOk, Some};
-ghost use Rattle.typed_tree.specs.BlockTree.{ApplyVertex, AssignSet, DeclareSet, StatementKindTree, simple_statement_tree, value_statement_tree};
+ghost use Rattle.typed_tree.specs.BlockTree.{ApplyVertex, AssignSet, DeclareSet, Simple, SimpleStatementTree, simple_statement_tree, value_statement_tree};
 ghost use Rattle.typed_tree.specs.BoolExpressionTree.{bool_expression_tree};
 ghost use Rattle.typed_tree.specs.IntExpressionTree.{int_expression_tree};
 ghost use Rattle.kernels.specs.Kernels.{IsBoolKernel, IsIntKernel};
@@ -207,8 +207,8 @@ fn apply_vertices(set: VarRef, function: usize) -> PlanOperation
 
 /// An edge function on the edges between two ends, and what is done with the vertices at which it changes a vector.
 fn apply_edges(ends: ApplyEnds, function: usize, given: PartResult) -> PlanOperation
-    ensures { (keep shown : Depth) (action : StatementKindTree)
-        → edge_apply_of action ≡ Some (record { ends = ends; part = record { function = function; result = result_tree given } })
+    ensures { (keep shown : Depth) (action : SimpleStatementTree)
+        → edge_apply_of (Simple action) ≡ Some (record { ends = ends; part = record { function = function; result = result_tree given } })
         → IsOperation keep shown result (Do action) }
 {
     PlanOperation::Apply(ApplyOperation::ApplyEdges {

@@ -1,6 +1,6 @@
 //! Visible variables: how many of each kind a statement sees.
 ghost use Rattle.std.specs.Prelude.{◌≡◌, IfOk, OnOk, length};
-ghost use Rattle.typed_tree.specs.BlockTree.{simple_statement_tree, statement_kind_tree};
+ghost use Rattle.typed_tree.specs.BlockTree.{Simple, simple_statement_tree, statement_kind_tree};
 ghost use Rattle.plans.specs.inside.Plan.{IsWithin};
 ghost use Rattle.plans.specs.Plan.{depth_after, depth_with_integer};
 ghost use Rattle.lowering.specs.inside.Visible.{depth_of};
@@ -54,7 +54,7 @@ impl Visible {
 
     /// With what a statement without a block declares.
     pub(crate) fn declare_simple(&mut self, statement: &SimpleStatement) -> Result<(), AllocError>
-        ensures { OnOk result (depth_of self.new ≡ depth_after (simple_statement_tree statement.now) (depth_of self.old)) }
+        ensures { OnOk result (depth_of self.new ≡ depth_after (Simple (simple_statement_tree statement.now)) (depth_of self.old)) }
     {
         match statement {
             SimpleStatement::Value(ValueStatement::DeclareInt(name, _)) => {

@@ -7,8 +7,8 @@ use Rattle.std.specs.Option.{option_and_then}
 use Rattle.std.specs.List.{AllByRecursion, concat}
 use Rattle.typed_tree.specs.declared.statement.SetValue.{SetValue}
 use Rattle.typed_tree.specs.declared.statement.SetValue.TheVariants as set
-use Rattle.typed_tree.specs.BlockTree.{StatementKindTree, DeclareInt, DeclareBool, SetInt, SetBool, ReduceInt, SetEntry, ReduceEntry, DeclareSet, AssignSet, AddVertex}
-use Rattle.typed_tree.specs.BlockTree.{PrintInt, PrintBool, ApplyVertex, ApplyEdges, If, IfElse, While, For, BlockTree, Empty, Then}
+use Rattle.typed_tree.specs.BlockTree.{SimpleStatementTree, DeclareInt, DeclareBool, SetInt, SetBool, ReduceInt, SetEntry, ReduceEntry, DeclareSet, AssignSet, AddVertex}
+use Rattle.typed_tree.specs.BlockTree.{PrintInt, PrintBool, ApplyVertex, ApplyEdges, StatementKindTree, Simple, If, IfElse, While, For, BlockTree, Empty, Then}
 use Rattle.typed_tree.specs.ProgramTree.{ProgramTree}
 use Rattle.algorithm_meaning.specs.declared.outcome.End.TheVariants.{TurnsOver}
 use Rattle.algorithm_meaning.specs.declared.state.Depth.{Depth}
@@ -20,7 +20,7 @@ use Rattle.algorithm_meaning.specs.Function.{lets_through}
 use Rattle.algorithm_meaning.specs.Statements.{condition_line, integer_line}
 use Rattle.algorithm_meaning.specs.VertexSets.{inserted, members_for, set_members}
 use Rattle.algorithm_meaning.specs.Loop.{bounds_in, depth_of, for_body, for_test, leave, loop, next_of, take_turn, while_body, while_test}
-use Rattle.algorithm_meaning.specs.Meaning.{after, after_all, full_set, initial_state, meaning, named_set, outcome_of}
+use Rattle.algorithm_meaning.specs.Meaning.{after, after_simple, after_all, full_set, initial_state, meaning, named_set, outcome_of}
 use Rattle.meaning_laws.specs.Members.{AreVertices}
 use Rattle.meaning_laws.specs.Printing.{IsPrinted, IsPrintedLine}
 use Rattle.meaning_laws.proofs.Ascending.{inserted_vertices, no_vertices}
@@ -126,37 +126,40 @@ module _ (n : ℕ) where
         (λ t sound. then_sound (body a t) (loop test body next number k (next a)) (each a t sound) (λ u also. loop_sound k (next a) u also))) is)
 
 module _ (p : ProgramTree) (g : GraphValue) where
+  simple_sound : (a : SimpleStatementTree) (number : ℕ) (s : StateValue) → IsSound g.vertices s → Sound g.vertices (after_simple p g number a s)
+  simple_sound (DeclareInt name e) number s is = value_sound g.vertices (int_value_in g.vertices e s) number s _ is (λ x. record { printed = is.printed; sets = is.sets })
+  simple_sound (DeclareBool name c) number s is = value_sound g.vertices (bool_value_in g.vertices c s) number s _ is (λ b. record { printed = is.printed; sets = is.sets })
+  simple_sound (SetInt slot e) number s is = value_sound g.vertices (int_value_in g.vertices e s) number s _ is (λ x. record { printed = is.printed; sets = is.sets })
+  simple_sound (SetBool slot c) number s is = value_sound g.vertices (bool_value_in g.vertices c s) number s _ is (λ b. record { printed = is.printed; sets = is.sets })
+  simple_sound (ReduceInt slot reduction e) number s is = value_sound g.vertices (int_value_in g.vertices e s) number s _ is (λ x. record { printed = is.printed; sets = is.sets })
+  simple_sound (SetEntry vector subscript e) number s is =
+      value_sound g.vertices (vertex_in g.vertices subscript s) number s _ is
+      (λ v. value_sound g.vertices (int_value_in g.vertices e s) number s _ is (λ x. record { printed = is.printed; sets = is.sets }))
+  simple_sound (ReduceEntry vector subscript reduction e) number s is =
+      value_sound g.vertices (vertex_in g.vertices subscript s) number s _ is
+      (λ v. value_sound g.vertices (int_value_in g.vertices e s) number s _ is (λ x. record { printed = is.printed; sets = is.sets }))
+  simple_sound (DeclareSet name value) number s is =
+      record { printed = is.printed; sets = pushed_sets g.vertices s.sets name (members_for p g value s) is.sets (value_members p g value s is.sets) }
+  simple_sound (AssignSet slot value) number s is =
+      record { printed = is.printed; sets = changed_sets g.vertices s.sets slot.index (members_for p g value s) is.sets (value_members p g value s is.sets) }
+  simple_sound (AddVertex slot e) number s is =
+      found_sound g.vertices (vertex_in g.vertices e s) number s _ is
+      (λ v found. record {
+        printed = is.printed;
+        sets = changed_sets g.vertices s.sets slot.index (inserted v (members_of (slice_get s.sets slot.index))) is.sets
+            (inserted_vertices g.vertices v (members_of (slice_get s.sets slot.index)) (found_below g.vertices v (int_value_in g.vertices e s) found)
+            (members_are g.vertices s.sets slot.index is.sets));
+      })
+  simple_sound (PrintInt e) number s is =
+      value_sound g.vertices (int_value_in g.vertices e s) number s _ is (λ x. record { printed = printed_line s.text (integer_line x) is.printed (inl (x, refl)); sets = is.sets })
+  simple_sound (PrintBool c) number s is =
+      value_sound g.vertices (bool_value_in g.vertices c s) number s _ is (λ b. record { printed = printed_line s.text (condition_line b) is.printed (inr (b, refl)); sets = is.sets })
+  simple_sound (ApplyVertex set function) number s is = record { printed = is.printed; sets = is.sets }
+  simple_sound (ApplyEdges ends function) number s is = record { printed = is.printed; sets = is.sets }
+
   mutual
     action_sound : (a : StatementKindTree) (number : ℕ) (s : StateValue) → IsSound g.vertices s → Sound g.vertices (after p g number a s)
-    action_sound (DeclareInt name e) number s is = value_sound g.vertices (int_value_in g.vertices e s) number s _ is (λ x. record { printed = is.printed; sets = is.sets })
-    action_sound (DeclareBool name c) number s is = value_sound g.vertices (bool_value_in g.vertices c s) number s _ is (λ b. record { printed = is.printed; sets = is.sets })
-    action_sound (SetInt slot e) number s is = value_sound g.vertices (int_value_in g.vertices e s) number s _ is (λ x. record { printed = is.printed; sets = is.sets })
-    action_sound (SetBool slot c) number s is = value_sound g.vertices (bool_value_in g.vertices c s) number s _ is (λ b. record { printed = is.printed; sets = is.sets })
-    action_sound (ReduceInt slot reduction e) number s is = value_sound g.vertices (int_value_in g.vertices e s) number s _ is (λ x. record { printed = is.printed; sets = is.sets })
-    action_sound (SetEntry vector subscript e) number s is =
-        value_sound g.vertices (vertex_in g.vertices subscript s) number s _ is
-        (λ v. value_sound g.vertices (int_value_in g.vertices e s) number s _ is (λ x. record { printed = is.printed; sets = is.sets }))
-    action_sound (ReduceEntry vector subscript reduction e) number s is =
-        value_sound g.vertices (vertex_in g.vertices subscript s) number s _ is
-        (λ v. value_sound g.vertices (int_value_in g.vertices e s) number s _ is (λ x. record { printed = is.printed; sets = is.sets }))
-    action_sound (DeclareSet name value) number s is =
-        record { printed = is.printed; sets = pushed_sets g.vertices s.sets name (members_for p g value s) is.sets (value_members p g value s is.sets) }
-    action_sound (AssignSet slot value) number s is =
-        record { printed = is.printed; sets = changed_sets g.vertices s.sets slot.index (members_for p g value s) is.sets (value_members p g value s is.sets) }
-    action_sound (AddVertex slot e) number s is =
-        found_sound g.vertices (vertex_in g.vertices e s) number s _ is
-        (λ v found. record {
-          printed = is.printed;
-          sets = changed_sets g.vertices s.sets slot.index (inserted v (members_of (slice_get s.sets slot.index))) is.sets
-              (inserted_vertices g.vertices v (members_of (slice_get s.sets slot.index)) (found_below g.vertices v (int_value_in g.vertices e s) found)
-              (members_are g.vertices s.sets slot.index is.sets));
-        })
-    action_sound (PrintInt e) number s is =
-        value_sound g.vertices (int_value_in g.vertices e s) number s _ is (λ x. record { printed = printed_line s.text (integer_line x) is.printed (inl (x, refl)); sets = is.sets })
-    action_sound (PrintBool c) number s is =
-        value_sound g.vertices (bool_value_in g.vertices c s) number s _ is (λ b. record { printed = printed_line s.text (condition_line b) is.printed (inr (b, refl)); sets = is.sets })
-    action_sound (ApplyVertex set function) number s is = record { printed = is.printed; sets = is.sets }
-    action_sound (ApplyEdges ends function) number s is = record { printed = is.printed; sets = is.sets }
+    action_sound (Simple a) number s is = simple_sound a number s is
     action_sound (If c body) number s is =
         value_sound g.vertices (bool_value_in g.vertices c s) number s _ is
         (λ b. choice_sound g.vertices b _ _ (leave_sound g.vertices (depth_of s) _ (block_sound body s is)) is)

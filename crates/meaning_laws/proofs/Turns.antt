@@ -8,8 +8,8 @@ use Rattle.typed_tree.specs.declared.statement.SetValue.TheVariants as set
 use Rattle.typed_tree.specs.declared.statement.VertexFilter.{VertexFilter}
 use Rattle.typed_tree.specs.declared.statement.VertexFilter.TheVariants.{Members, Function}
 use Rattle.typed_tree.specs.FunctionStatementTree.{FunctionTree}
-use Rattle.typed_tree.specs.BlockTree.{StatementKindTree, DeclareInt, DeclareBool, SetInt, SetBool, ReduceInt, SetEntry, ReduceEntry, DeclareSet, AssignSet, AddVertex}
-use Rattle.typed_tree.specs.BlockTree.{PrintInt, PrintBool, ApplyVertex, ApplyEdges, If, IfElse, While, For, BlockTree, Empty, Then}
+use Rattle.typed_tree.specs.BlockTree.{SimpleStatementTree, DeclareInt, DeclareBool, SetInt, SetBool, ReduceInt, SetEntry, ReduceEntry, DeclareSet, AssignSet, AddVertex}
+use Rattle.typed_tree.specs.BlockTree.{PrintInt, PrintBool, ApplyVertex, ApplyEdges, StatementKindTree, Simple, If, IfElse, While, For, BlockTree, Empty, Then}
 use Rattle.typed_tree.specs.ProgramTree.{ProgramTree}
 use Rattle.algorithm_meaning.specs.declared.outcome.End.{End}
 use Rattle.algorithm_meaning.specs.declared.outcome.End.TheVariants.{Finished, TurnsOver, Fault}
@@ -21,7 +21,7 @@ use Rattle.algorithm_meaning.specs.EdgeApply.{after_edge_apply, after_edges, is_
 use Rattle.algorithm_meaning.specs.Statements.{with_vectors}
 use Rattle.algorithm_meaning.specs.VertexSets.{after_assign_set, after_declare_set, with_members, with_new_set}
 use Rattle.algorithm_meaning.specs.Loop.{bounds_in, depth_of, for_body, for_test, leave, loop, next_of, take_turn, while_body, while_test}
-use Rattle.algorithm_meaning.specs.Meaning.{after, after_all, initial_state, meaning, outcome_of, shown}
+use Rattle.algorithm_meaning.specs.Meaning.{after, after_simple, after_all, initial_state, meaning, outcome_of, shown}
 
 -- the state with so many more turns left
 abbrev pub plus : ℕ → StateValue → StateValue
@@ -131,24 +131,27 @@ module _ (d : ℕ) where
       ap (λ (after : List (List ℤ)). with_members (with_vectors (plus d s) after) index (modified g.vertices vector s.vectors after)) (apply_same p.filters p.edge_functions g ends (function ∷ []) s)
 
   module _ (p : ProgramTree) (g : GraphValue) where
+    simple_follows : (a : SimpleStatementTree) (number : ℕ) (s : StateValue) → Follows d (after_simple p g number a s) (after_simple p g number a (plus d s))
+    simple_follows (DeclareInt name e) number s = value_follows (int_value_in g.vertices e s) number s _ _ (λ n. refl)
+    simple_follows (DeclareBool name c) number s = value_follows (bool_value_in g.vertices c s) number s _ _ (λ b. refl)
+    simple_follows (SetInt slot e) number s = value_follows (int_value_in g.vertices e s) number s _ _ (λ n. refl)
+    simple_follows (SetBool slot c) number s = value_follows (bool_value_in g.vertices c s) number s _ _ (λ b. refl)
+    simple_follows (ReduceInt slot reduction e) number s = value_follows (int_value_in g.vertices e s) number s _ _ (λ n. refl)
+    simple_follows (SetEntry vector subscript e) number s =
+        value_follows (vertex_in g.vertices subscript s) number s _ _ (λ v. value_follows (int_value_in g.vertices e s) number s _ _ (λ n. refl))
+    simple_follows (ReduceEntry vector subscript reduction e) number s =
+        value_follows (vertex_in g.vertices subscript s) number s _ _ (λ v. value_follows (int_value_in g.vertices e s) number s _ _ (λ n. refl))
+    simple_follows (DeclareSet name value) number s = ap Live (declared_same p g name value s)
+    simple_follows (AssignSet slot value) number s = ap Live (assigned_same p g slot.index value s)
+    simple_follows (AddVertex slot e) number s = value_follows (vertex_in g.vertices e s) number s _ _ (λ v. refl)
+    simple_follows (PrintInt e) number s = value_follows (int_value_in g.vertices e s) number s _ _ (λ n. refl)
+    simple_follows (PrintBool c) number s = value_follows (bool_value_in g.vertices c s) number s _ _ (λ b. refl)
+    simple_follows (ApplyVertex set function) number s = refl
+    simple_follows (ApplyEdges ends function) number s = ap (λ (after : List (List ℤ)). Live (with_vectors (plus d s) after)) (apply_same p.filters p.edge_functions g ends (function ∷ []) s)
+
     mutual
       action_follows : (a : StatementKindTree) (number : ℕ) (s : StateValue) → Follows d (after p g number a s) (after p g number a (plus d s))
-      action_follows (DeclareInt name e) number s = value_follows (int_value_in g.vertices e s) number s _ _ (λ n. refl)
-      action_follows (DeclareBool name c) number s = value_follows (bool_value_in g.vertices c s) number s _ _ (λ b. refl)
-      action_follows (SetInt slot e) number s = value_follows (int_value_in g.vertices e s) number s _ _ (λ n. refl)
-      action_follows (SetBool slot c) number s = value_follows (bool_value_in g.vertices c s) number s _ _ (λ b. refl)
-      action_follows (ReduceInt slot reduction e) number s = value_follows (int_value_in g.vertices e s) number s _ _ (λ n. refl)
-      action_follows (SetEntry vector subscript e) number s =
-          value_follows (vertex_in g.vertices subscript s) number s _ _ (λ v. value_follows (int_value_in g.vertices e s) number s _ _ (λ n. refl))
-      action_follows (ReduceEntry vector subscript reduction e) number s =
-          value_follows (vertex_in g.vertices subscript s) number s _ _ (λ v. value_follows (int_value_in g.vertices e s) number s _ _ (λ n. refl))
-      action_follows (DeclareSet name value) number s = ap Live (declared_same p g name value s)
-      action_follows (AssignSet slot value) number s = ap Live (assigned_same p g slot.index value s)
-      action_follows (AddVertex slot e) number s = value_follows (vertex_in g.vertices e s) number s _ _ (λ v. refl)
-      action_follows (PrintInt e) number s = value_follows (int_value_in g.vertices e s) number s _ _ (λ n. refl)
-      action_follows (PrintBool c) number s = value_follows (bool_value_in g.vertices c s) number s _ _ (λ b. refl)
-      action_follows (ApplyVertex set function) number s = refl
-      action_follows (ApplyEdges ends function) number s = ap (λ (after : List (List ℤ)). Live (with_vectors (plus d s) after)) (apply_same p.filters p.edge_functions g ends (function ∷ []) s)
+      action_follows (Simple a) number s = simple_follows a number s
       action_follows (If c body) number s =
           value_follows (bool_value_in g.vertices c s) number s _ _ (λ b. choice_follows b _ _ _ _ (leave_follows (depth_of s) _ _ (block_follows body s)) refl)
       action_follows (IfElse c body other) number s =

@@ -1,8 +1,8 @@
 -- Turns never grow, and so the number with which a loop is read says nothing.
 use Rattle.std.proofs.Common.{◌≡◌, ℕ, zero, suc, ◌+◌, ◌≤◌, Bool, true, false, int_lt, Option, Some, None, refl, sym, ap, ◌∙◌, arith, le_refl}
 use Rattle.typed_tree.specs.BoolExpressionTree.{BoolExpressionTree}
-use Rattle.typed_tree.specs.BlockTree.{StatementKindTree, DeclareInt, DeclareBool, SetInt, SetBool, ReduceInt, SetEntry, ReduceEntry, DeclareSet, AssignSet, AddVertex}
-use Rattle.typed_tree.specs.BlockTree.{PrintInt, PrintBool, ApplyVertex, ApplyEdges, If, IfElse, While, For, BlockTree, Empty, Then}
+use Rattle.typed_tree.specs.BlockTree.{SimpleStatementTree, DeclareInt, DeclareBool, SetInt, SetBool, ReduceInt, SetEntry, ReduceEntry, DeclareSet, AssignSet, AddVertex}
+use Rattle.typed_tree.specs.BlockTree.{PrintInt, PrintBool, ApplyVertex, ApplyEdges, StatementKindTree, Simple, If, IfElse, While, For, BlockTree, Empty, Then}
 use Rattle.typed_tree.specs.ProgramTree.{ProgramTree}
 use Rattle.algorithm_meaning.specs.declared.outcome.End.TheVariants.{Finished, TurnsOver, Fault}
 use Rattle.algorithm_meaning.specs.declared.state.Depth.{Depth}
@@ -10,7 +10,7 @@ use Rattle.algorithm_meaning.specs.declared.state.LoopCounter.{LoopCounter}
 use Rattle.algorithm_meaning.specs.State.{GraphValue, StateValue}
 use Rattle.algorithm_meaning.specs.Stand.{Stand, Live, Over, then_do, int_value_in, vertex_in, bool_value_in, with_value, choose}
 use Rattle.algorithm_meaning.specs.Loop.{after_for, after_while, bounds_in, depth_of, for_body, for_test, inside, leave, loop, next_of, take_turn, while_body, while_test}
-use Rattle.algorithm_meaning.specs.Meaning.{after, after_all, initial_state, meaning, outcome_of}
+use Rattle.algorithm_meaning.specs.Meaning.{after, after_simple, after_all, initial_state, meaning, outcome_of}
 
 -- no more than n turns are left, and none where they ran out
 abbrev Falls : ℕ → Stand → Type 0
@@ -92,23 +92,26 @@ module _ {A : Type 0} (test : A → StateValue → Option Bool) (body : A → St
       (λ u below. loop_same s.turns u.turns (next a) u (omega (arith, fewer, below)) (le_refl u.turns))))
 
 module _ (p : ProgramTree) (g : GraphValue) where
+  simple_falls : (a : SimpleStatementTree) (n number : ℕ) (s : StateValue) → s.turns ≤ n → Falls n (after_simple p g number a s)
+  simple_falls (DeclareInt name e) n number s le = value_falls n (int_value_in g.vertices e s) number s _ (λ x. le)
+  simple_falls (DeclareBool name c) n number s le = value_falls n (bool_value_in g.vertices c s) number s _ (λ b. le)
+  simple_falls (SetInt slot e) n number s le = value_falls n (int_value_in g.vertices e s) number s _ (λ x. le)
+  simple_falls (SetBool slot c) n number s le = value_falls n (bool_value_in g.vertices c s) number s _ (λ b. le)
+  simple_falls (ReduceInt slot reduction e) n number s le = value_falls n (int_value_in g.vertices e s) number s _ (λ x. le)
+  simple_falls (SetEntry vector index e) n number s le = value_falls n (vertex_in g.vertices index s) number s _ (λ v. value_falls n (int_value_in g.vertices e s) number s _ (λ x. le))
+  simple_falls (ReduceEntry vector index reduction e) n number s le =
+      value_falls n (vertex_in g.vertices index s) number s _ (λ v. value_falls n (int_value_in g.vertices e s) number s _ (λ x. le))
+  simple_falls (DeclareSet name value) n number s le = le
+  simple_falls (AssignSet slot value) n number s le = le
+  simple_falls (AddVertex slot e) n number s le = value_falls n (vertex_in g.vertices e s) number s _ (λ v. le)
+  simple_falls (PrintInt e) n number s le = value_falls n (int_value_in g.vertices e s) number s _ (λ x. le)
+  simple_falls (PrintBool c) n number s le = value_falls n (bool_value_in g.vertices c s) number s _ (λ b. le)
+  simple_falls (ApplyVertex set function) n number s le = le
+  simple_falls (ApplyEdges ends function) n number s le = le
+
   mutual
     action_falls : (a : StatementKindTree) (n number : ℕ) (s : StateValue) → s.turns ≤ n → Falls n (after p g number a s)
-    action_falls (DeclareInt name e) n number s le = value_falls n (int_value_in g.vertices e s) number s _ (λ x. le)
-    action_falls (DeclareBool name c) n number s le = value_falls n (bool_value_in g.vertices c s) number s _ (λ b. le)
-    action_falls (SetInt slot e) n number s le = value_falls n (int_value_in g.vertices e s) number s _ (λ x. le)
-    action_falls (SetBool slot c) n number s le = value_falls n (bool_value_in g.vertices c s) number s _ (λ b. le)
-    action_falls (ReduceInt slot reduction e) n number s le = value_falls n (int_value_in g.vertices e s) number s _ (λ x. le)
-    action_falls (SetEntry vector index e) n number s le = value_falls n (vertex_in g.vertices index s) number s _ (λ v. value_falls n (int_value_in g.vertices e s) number s _ (λ x. le))
-    action_falls (ReduceEntry vector index reduction e) n number s le =
-        value_falls n (vertex_in g.vertices index s) number s _ (λ v. value_falls n (int_value_in g.vertices e s) number s _ (λ x. le))
-    action_falls (DeclareSet name value) n number s le = le
-    action_falls (AssignSet slot value) n number s le = le
-    action_falls (AddVertex slot e) n number s le = value_falls n (vertex_in g.vertices e s) number s _ (λ v. le)
-    action_falls (PrintInt e) n number s le = value_falls n (int_value_in g.vertices e s) number s _ (λ x. le)
-    action_falls (PrintBool c) n number s le = value_falls n (bool_value_in g.vertices c s) number s _ (λ b. le)
-    action_falls (ApplyVertex set function) n number s le = le
-    action_falls (ApplyEdges ends function) n number s le = le
+    action_falls (Simple a) n number s le = simple_falls a n number s le
     action_falls (If c body) n number s le =
         value_falls n (bool_value_in g.vertices c s) number s _ (λ b. choice_falls n b _ _ (leave_falls n (depth_of s) _ (block_falls body n s le)) le)
     action_falls (IfElse c body other) n number s le =

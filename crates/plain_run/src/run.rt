@@ -6,7 +6,7 @@ ghost use Rattle.typed_tree.specs.ProgramTree.{program_tree};
 ghost use Rattle.algorithm_meaning.specs.EdgeApply.{after_edge_apply};
 ghost use Rattle.algorithm_meaning.specs.Statements.{with_vectors};
 ghost use Rattle.algorithm_meaning.specs.Loop.{after_for, after_while, for_body, inside, take_turn};
-ghost use Rattle.algorithm_meaning.specs.Meaning.{after, after_all, meaning};
+ghost use Rattle.algorithm_meaning.specs.Meaning.{after, after_all, after_simple, meaning};
 ghost use Rattle.plain_run.specs.inside.Seen.{graph_of, stand, state_of};
 
 use crate::edge_apply::apply_edges;
@@ -114,7 +114,7 @@ fn run_simple(
     state: &mut InterpreterState,
 ) -> Result<Option<End>, AllocError>
     ensures meaning { IfOk result (λ end. stand end (state_of state.new)
-        ≡ after (program_tree input.entry.program.now) (graph_of input.entry.graph.now) number (simple_statement_tree statement.now) (state_of state.old)) }
+        ≡ after_simple (program_tree input.entry.program.now) (graph_of input.entry.graph.now) number (simple_statement_tree statement.now) (state_of state.old)) }
     ensures turns { state.new.turns ≡ state.old.turns }
 {
     let context = StatementContext {
@@ -158,7 +158,7 @@ fn run_value(
     state: &mut InterpreterState,
 ) -> Result<Option<End>, AllocError>
     ensures meaning { IfOk result (λ end. stand end (state_of state.new)
-        ≡ after (program_tree input.entry.program.now) (graph_of input.entry.graph.now) number (value_statement_tree statement.now) (state_of state.old)) }
+        ≡ after_simple (program_tree input.entry.program.now) (graph_of input.entry.graph.now) number (value_statement_tree statement.now) (state_of state.old)) }
     ensures turns { state.new.turns ≡ state.old.turns }
 {
     let context = StatementContext {

@@ -11,7 +11,7 @@ use Rattle.typed_tree.specs.declared.statement.VertexFilter.TheVariants as filte
 use Rattle.typed_tree.specs.declared.apply.StatementApply.{StatementApply}
 use Rattle.typed_tree.specs.declared.apply.StatementApply.TheVariants.{Vertices, Edges}
 use Rattle.typed_tree.specs.Independence.{function_writes}
-use Rattle.typed_tree.specs.BlockTree.{StatementKindTree, DeclareSet, AssignSet, ApplyVertex, ApplyEdges}
+use Rattle.typed_tree.specs.BlockTree.{StatementKindTree, Simple, DeclareSet, AssignSet, ApplyVertex, ApplyEdges}
 use Rattle.typed_tree.specs.ProgramTree.{ProgramTree}
 use Rattle.typed_tree.specs.Resolved.{VisibleTree, ActionIsResolved, EndsAreResolved, after_action}
 use Rattle.schedule.specs.Schedule.{apply_of, modifying_as}
@@ -25,7 +25,7 @@ use Rattle.type_laws.proofs.ResolvedScopes.{get_before, get_last}
 
 -- what is visible stays so after a statement
 pub stays_visible : (a : StatementKindTree) (names : SetNames) (k : ℕ) (x : Option ℕ) → slice_get names k ≡ Some x → slice_get (names_after a names) k ≡ Some x
-stays_visible (DeclareSet name value) names k x is = get_before names (Some name ∷ []) k x is
+stays_visible (Simple (DeclareSet name value)) names k x is = get_before names (Some name ∷ []) k x is
 stays_visible _ names k x is = is
 
 end_stays : (a : StatementKindTree) (names : SetNames) (end : Option VertexFilter) → EndIsVisible names end → EndIsVisible (names_after a names) end
@@ -40,7 +40,7 @@ value_stays a names _ visible = tt
 
 -- what a statement speaks of is visible after it too
 pub sets_stay : (p : ProgramTree) (a : StatementKindTree) (names : SetNames) → SetsAreVisible p names a → SetsAreVisible p (names_after a names) a
-sets_stay p (DeclareSet name value) names visible = value_stays (DeclareSet name value) names value visible
+sets_stay p (Simple (DeclareSet name value)) names visible = value_stays (Simple (DeclareSet name value)) names value visible
 sets_stay p _ names visible = visible
 
 module _ (p : ProgramTree) where
@@ -75,8 +75,9 @@ module _ (p : ProgramTree) where
   abbrev pub IsApply : VisibleTree → SetNames → StatementKindTree → StatementApply → Type 0
   IsApply v names a x = IsEdgeApply v names a x ⊎ IsVertexApply names a x
 
-  declared_apply : (v : VisibleTree) (names : SetNames) (name : ℕ) (value : SetValue) (x : StatementApply) → modifying_as name value ≡ Some x → ActionIsResolved p v (DeclareSet name value)
-      → SetsAreVisible p names (DeclareSet name value) → AsksForWritten p (DeclareSet name value) → IsApply v names (DeclareSet name value) x
+  declared_apply : (v : VisibleTree) (names : SetNames) (name : ℕ) (value : SetValue) (x : StatementApply) → modifying_as name value ≡ Some x
+      → ActionIsResolved p v (Simple (DeclareSet name value)) → SetsAreVisible p names (Simple (DeclareSet name value))
+      → AsksForWritten p (Simple (DeclareSet name value)) → IsApply v names (Simple (DeclareSet name value)) x
   declared_apply v names name (set.Modified ends function vector) x is resolved visible asks =
       let part : EdgePartTree = record { function = function; result = Declared name vector } in
       inl (record {
@@ -90,8 +91,9 @@ module _ (p : ProgramTree) where
       })
   declared_apply v names name _ x is resolved visible asks = absurd (none-some x is)
 
-  assigned_apply : (v : VisibleTree) (names : SetNames) (slot : VarRef) (value : SetValue) (x : StatementApply) → modifying_as slot.name value ≡ Some x → ActionIsResolved p v (AssignSet slot value)
-      → SetsAreVisible p names (AssignSet slot value) → AsksForWritten p (AssignSet slot value) → IsApply v names (AssignSet slot value) x
+  assigned_apply : (v : VisibleTree) (names : SetNames) (slot : VarRef) (value : SetValue) (x : StatementApply) → modifying_as slot.name value ≡ Some x
+      → ActionIsResolved p v (Simple (AssignSet slot value)) → SetsAreVisible p names (Simple (AssignSet slot value))
+      → AsksForWritten p (Simple (AssignSet slot value)) → IsApply v names (Simple (AssignSet slot value)) x
   assigned_apply v names slot (set.Modified ends function vector) x is resolved visible asks =
       let part : EdgePartTree = record { function = function; result = Assigned slot vector } in
       inl (record {
@@ -107,7 +109,7 @@ module _ (p : ProgramTree) where
 
   pub statement_apply : (v : VisibleTree) (names : SetNames) (a : StatementKindTree) (x : StatementApply) → apply_of a ≡ Some x → ActionIsResolved p v a → SetsAreVisible p names a → AsksForWritten p a
       → IsApply v names a x
-  statement_apply v names (ApplyVertex set function) x is resolved visible asks =
+  statement_apply v names (Simple (ApplyVertex set function)) x is resolved visible asks =
       inr (record {
         apply = record { set = set; function = function };
         is = refl;
@@ -115,7 +117,7 @@ module _ (p : ProgramTree) where
         tree = sym (same_Some (Vertices set function) x is);
         visible = visible;
       })
-  statement_apply v names (ApplyEdges ends function) x is resolved visible asks =
+  statement_apply v names (Simple (ApplyEdges ends function)) x is resolved visible asks =
       let part : EdgePartTree = record { function = function; result = Dropped } in
       inl (record {
         apply = record { ends = ends; part = part };
@@ -126,6 +128,6 @@ module _ (p : ProgramTree) where
         written = tt;
         stands = λ d deep low. tt;
       })
-  statement_apply v names (DeclareSet name value) x is resolved visible asks = declared_apply v names name value x is resolved visible asks
-  statement_apply v names (AssignSet slot value) x is resolved visible asks = assigned_apply v names slot value x is resolved visible asks
+  statement_apply v names (Simple (DeclareSet name value)) x is resolved visible asks = declared_apply v names name value x is resolved visible asks
+  statement_apply v names (Simple (AssignSet slot value)) x is resolved visible asks = assigned_apply v names slot value x is resolved visible asks
   statement_apply v names _ x is resolved visible asks = absurd (none-some x is)

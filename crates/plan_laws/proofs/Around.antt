@@ -1,6 +1,6 @@
 -- The loops around the instructions of a plan.
 use Rattle.std.proofs.Common.{◌≡◌, ℕ, zero, suc, ◌+◌, ◌≤◌, Bool, true, false, List, [], ◌∷◌, ◌++◌, length, if◌then◌else◌, Option, Some, None, slice_get, refl, arith, subst}
-use Rattle.typed_tree.specs.BlockTree.{StatementKindTree, DeclareInt, DeclareBool, DeclareSet, BlockTree, Empty, Then}
+use Rattle.typed_tree.specs.BlockTree.{StatementKindTree, Simple, DeclareInt, BlockTree, Empty, Then}
 use Rattle.typed_tree.specs.ProgramTree.{ProgramTree}
 use Rattle.apply_options.specs.ScheduleTree.{ScheduleTree, apply_schedule_at}
 use Rattle.algorithm_meaning.specs.declared.state.Depth.{Depth}
@@ -8,7 +8,6 @@ use Rattle.plans.specs.Instruction.{OperationTree, Do, ApplyEdgesTogether, Apply
 use Rattle.plans.specs.Fusing.{EdgeApplyTree, VertexApplyTree, edge_apply_of, vertex_apply_of, edges_fit, vertices_fit, fused_edges, fused_vertices, either, together, is_with, FusionRole, Alone}
 use Rattle.plans.specs.Fusing.{WithNext, WithPrevious, with_next, fusion_role_of, takes_next}
 use Rattle.plans.specs.Plan.{depth_after}
-use Rattle.plans.proofs.Proper.{HasNoBlock}
 use Rattle.type_laws.specs.LoopVariables.{KeepsInside}
 use Rattle.type_laws.proofs.LoopStatements.{AreBelow}
 
@@ -39,7 +38,7 @@ module _ (code : List InstructionTree) (table : List (List ℕ)) where
 
   -- what holds of an instruction inside these loops
   abbrev pub Local : (index : ℕ) → List ℕ → (keep shown : Depth) → OperationTree → Type 0
-  Local index is keep shown (Do a) = HasNoBlock a × KeepsInside keep.integers is a × Entry code table (index + 1) is (depth_after a keep).integers × AreBelow is keep.integers
+  Local index is keep shown (Do a) = KeepsInside keep.integers is (Simple a) × Entry code table (index + 1) is (depth_after (Simple a) keep).integers × AreBelow is keep.integers
   Local index is keep shown (ApplyEdgesTogether ends a b) = Entry code table (index + 1) is keep.integers × AreBelow is keep.integers
   Local index is keep shown (ApplyVerticesTogether set a b) = Entry code table (index + 1) is keep.integers × AreBelow is keep.integers
   Local index is keep shown (Unless c to) = Entry code table (index + 1) is keep.integers × Entry code table to is keep.integers × AreBelow is keep.integers
@@ -124,15 +123,11 @@ FitsCompany (WithNext operation) a rest = IsForTwo operation × DeclaresNone a �
 FitsCompany WithPrevious a rest = DeclaresNone a
 
 edge_declares_none : (a : StatementKindTree) (x : EdgeApplyTree) → edge_apply_of a ≡ Some x → DeclaresNone a
-edge_declares_none (DeclareInt name e) x is = let bad : None ≡ Some x = is in cc
-edge_declares_none (DeclareBool name e) x is = λ d. refl
-edge_declares_none (DeclareSet name value) x is = λ d. refl
+edge_declares_none (Simple (DeclareInt name e)) x is = let bad : None ≡ Some x = is in cc
 edge_declares_none _ x is = λ d. refl
 
 vertex_declares_none : (a : StatementKindTree) (x : VertexApplyTree) → vertex_apply_of a ≡ Some x → DeclaresNone a
-vertex_declares_none (DeclareInt name e) x is = let bad : None ≡ Some x = is in cc
-vertex_declares_none (DeclareBool name e) x is = λ d. refl
-vertex_declares_none (DeclareSet name value) x is = λ d. refl
+vertex_declares_none (Simple (DeclareInt name e)) x is = let bad : None ≡ Some x = is in cc
 vertex_declares_none _ x is = λ d. refl
 
 -- what holds of an operation that does both

@@ -2,8 +2,7 @@
 use Rattle.std.proofs.Common.{◌≡◌, ℕ, ◌+◌, ◌<◌, ◌≤◌, append_assoc, Bool, false, List, [], ◌∷◌, ◌++◌, length, length-append, Option, Some, slice_get, refl, ap, sym, ◌∙◌, arith, subst}
 use Rattle.std.proofs.Math.Seq.{get_or-append_seam}
 use Rattle.std.proofs.lemmas.Option.{slice_get-get_or}
-use Rattle.typed_tree.specs.BlockTree.{StatementKindTree, DeclareInt, DeclareBool, SetInt, SetBool, ReduceInt, SetEntry, ReduceEntry, DeclareSet, AssignSet, AddVertex}
-use Rattle.typed_tree.specs.BlockTree.{PrintInt, PrintBool, ApplyVertex, ApplyEdges, If, IfElse, While, For, BlockTree, Empty, Then}
+use Rattle.typed_tree.specs.BlockTree.{StatementKindTree, Simple, DeclareInt, If, IfElse, While, For, BlockTree, Empty, Then}
 use Rattle.typed_tree.specs.ProgramTree.{ProgramTree}
 use Rattle.apply_options.specs.ScheduleTree.{ScheduleTree}
 use Rattle.algorithm_meaning.specs.declared.state.Depth.{Depth}
@@ -23,20 +22,20 @@ around_in WithPrevious is own = []
 
 -- so many integers are visible after a statement
 integers_after : (a : StatementKindTree) (d : Depth) → integers_behind a d.integers ≡ (depth_after a d).integers
-integers_after (DeclareInt name e) d = refl
+integers_after (Simple (DeclareInt name e)) d = refl
 integers_after _ d = refl
 
 module _ (p : ProgramTree) (s : ScheduleTree) where
   abbrev mutual
     -- the loops around each instruction of a statement
     pub around : Depth → List ℕ → StatementKindTree → List (List ℕ)
+    around d is (Simple a) = is ∷ []
     around d is (If c body) = is ∷ around_all d is false body
     around d is (IfElse c body other) = is ∷ (around_all d is false body ++ is ∷ around_all d is false other)
     around d is (While c body) = is ∷ is ∷ (around_all d is false body ++ is ∷ [])
     around d is (For name first end body) =
         is ∷ is ∷ (d.integers ∷ is) ∷ (d.integers ∷ is)
         ∷ (around_all (depth_in_loop d) (d.integers ∷ is) false body ++ (d.integers ∷ is) ∷ (d.integers ∷ is) ∷ [])
-    around d is _ = is ∷ []
 
     -- and of a block
     pub around_all : Depth → List ℕ → (is_done : Bool) → BlockTree → List (List ℕ)
@@ -59,20 +58,7 @@ module _ (p : ProgramTree) (s : ScheduleTree) where
     length-around (For name first end body) d is =
         let more = d.integers ∷ is in
         omega (arith, length-around_all body (depth_in_loop d) more false, length-append (around_all (depth_in_loop d) more false body) (more ∷ more ∷ []))
-    length-around (DeclareInt name e) d is = refl
-    length-around (DeclareBool name c) d is = refl
-    length-around (SetInt slot e) d is = refl
-    length-around (SetBool slot c) d is = refl
-    length-around (ReduceInt slot reduction e) d is = refl
-    length-around (SetEntry vector subscript e) d is = refl
-    length-around (ReduceEntry vector subscript reduction e) d is = refl
-    length-around (DeclareSet name set) d is = refl
-    length-around (AssignSet slot set) d is = refl
-    length-around (AddVertex slot e) d is = refl
-    length-around (PrintInt e) d is = refl
-    length-around (PrintBool c) d is = refl
-    length-around (ApplyVertex set function) d is = refl
-    length-around (ApplyEdges ends function) d is = refl
+    length-around (Simple a) d is = refl
 
     pub length-around_all : (b : BlockTree) (d : Depth) (is : List ℕ) (is_done : Bool) → length (around_all d is is_done b) ≡ size_all p s d is_done b
     length-around_all Empty d is is_done = refl
@@ -90,24 +76,7 @@ module _ (p : ProgramTree) (s : ScheduleTree) where
 
     action_entry : (a : StatementKindTree) (index number : ℕ) (label : Option ℕ) (d : Depth) (is : List ℕ) → HasAt code index (plan p s index d number label a) → HasRows table index (around d is a)
         → Entry code table index is d.integers
-    action_entry (DeclareInt name e) index number label d is at rows = first_entry index is d _ at.0 rows.0 refl
-    action_entry (DeclareBool name c) index number label d is at rows = first_entry index is d _ at.0 rows.0 refl
-    action_entry (SetInt slot e) index number label d is at rows = first_entry index is d _ at.0 rows.0 refl
-    action_entry (SetBool slot c) index number label d is at rows = first_entry index is d _ at.0 rows.0 refl
-    action_entry (ReduceInt slot reduction e) index number label d is at rows = first_entry index is d _ at.0 rows.0 refl
-    action_entry (SetEntry vector subscript e) index number label d is at rows = first_entry index is d _ at.0 rows.0 refl
-    action_entry (ReduceEntry vector subscript reduction e) index number label d is at rows = first_entry index is d _ at.0 rows.0 refl
-    action_entry (DeclareSet name set) index number label d is at rows = first_entry index is d _ at.0 rows.0 refl
-    action_entry (AssignSet slot set) index number label d is at rows = first_entry index is d _ at.0 rows.0 refl
-    action_entry (AddVertex slot e) index number label d is at rows = first_entry index is d _ at.0 rows.0 refl
-    action_entry (PrintInt e) index number label d is at rows = first_entry index is d _ at.0 rows.0 refl
-    action_entry (PrintBool c) index number label d is at rows = first_entry index is d _ at.0 rows.0 refl
-    action_entry (ApplyVertex set function) index number label d is at rows = first_entry index is d _ at.0 rows.0 refl
-    action_entry (ApplyEdges ends function) index number label d is at rows = first_entry index is d _ at.0 rows.0 refl
-    action_entry (If c body) index number label d is at rows = first_entry index is d _ at.0 rows.0 refl
-    action_entry (IfElse c body other) index number label d is at rows = first_entry index is d _ at.0 rows.0 refl
-    action_entry (While c body) index number label d is at rows = first_entry index is d _ at.0 rows.0 refl
-    action_entry (For name first end body) index number label d is at rows = first_entry index is d _ at.0 rows.0 refl
+    action_entry _ index number label d is at rows = first_entry index is d _ at.0 rows.0 refl
 
     company_entry : (company : FusionRole) (action : StatementKindTree) (rest : BlockTree) (index number : ℕ) (label : Option ℕ) (d : Depth) (is : List ℕ) (own : List InstructionTree)
         (own_rows : List (List ℕ)) (n : ℕ)
@@ -167,20 +136,7 @@ module _ (p : ProgramTree) (s : ScheduleTree) where
       action_local : (a : StatementKindTree) (index number : ℕ) (label : Option ℕ) (d : Depth) (is : List ℕ) → HasAt code index (plan p s index d number label a) → HasRows table index (around d is a)
           → Entry code table (index + size p s d a) is (depth_after a d).integers → AreBelow is d.integers → KeepsInside d.integers is a
           → AllLocal code table index (plan p s index d number label a) (around d is a)
-      action_local (DeclareInt name e) index number label d is at rows end below keeps = ((tt, keeps, end, below), tt)
-      action_local (DeclareBool name c) index number label d is at rows end below keeps = ((tt, keeps, end, below), tt)
-      action_local (SetInt slot e) index number label d is at rows end below keeps = ((tt, keeps, end, below), tt)
-      action_local (SetBool slot c) index number label d is at rows end below keeps = ((tt, keeps, end, below), tt)
-      action_local (ReduceInt slot reduction e) index number label d is at rows end below keeps = ((tt, keeps, end, below), tt)
-      action_local (SetEntry vector subscript e) index number label d is at rows end below keeps = ((tt, keeps, end, below), tt)
-      action_local (ReduceEntry vector subscript reduction e) index number label d is at rows end below keeps = ((tt, keeps, end, below), tt)
-      action_local (DeclareSet name set) index number label d is at rows end below keeps = ((tt, keeps, end, below), tt)
-      action_local (AssignSet slot set) index number label d is at rows end below keeps = ((tt, keeps, end, below), tt)
-      action_local (AddVertex slot e) index number label d is at rows end below keeps = ((tt, keeps, end, below), tt)
-      action_local (PrintInt e) index number label d is at rows end below keeps = ((tt, keeps, end, below), tt)
-      action_local (PrintBool c) index number label d is at rows end below keeps = ((tt, keeps, end, below), tt)
-      action_local (ApplyVertex set function) index number label d is at rows end below keeps = ((tt, keeps, end, below), tt)
-      action_local (ApplyEdges ends function) index number label d is at rows end below keeps = ((tt, keeps, end, below), tt)
+      action_local (Simple a) index number label d is at rows end below keeps = ((keeps, end, below), tt)
       action_local (If c body) index number label d is at rows end below keeps =
           let n = size_all p s d false body in
           let to = index + 1 + n in
@@ -286,7 +242,7 @@ module _ (p : ProgramTree) (s : ScheduleTree) where
           let all = local_append code table (index + 4) n own (advance ∷ jump ∷ []) own_rows (more ∷ more ∷ []) e
           (block_local body false (index + 4) deep more tt body_at body_rows body_end below_deep keeps_deep)
           ((refl, refl, at_jump, below), ((head, below_deep), tt)) in (
-            (tt, tt, at_enter, below),
+            (tt, at_enter, below),
             (
               (refl, at_test, below),
               (

@@ -1,8 +1,7 @@
 -- The numbers of the instructions of a block are those of its statements.
 use Rattle.std.proofs.Common.{◌≡◌, ap, sym, subst, ◌∙◌, inl, inr, ℕ, suc, ◌+◌, ◌<◌, ◌≤◌, Bool, false, List, [], ◌∷◌, ◌++◌, length, length-append, arith, Option}
 use Rattle.std.specs.List.{AllByRecursion}
-use Rattle.typed_tree.specs.BlockTree.{StatementKindTree, DeclareInt, DeclareBool, SetInt, SetBool, ReduceInt, SetEntry, ReduceEntry, DeclareSet, AssignSet, AddVertex}
-use Rattle.typed_tree.specs.BlockTree.{PrintInt, PrintBool, ApplyVertex, ApplyEdges, If, IfElse, While, For, BlockTree, Empty, Then}
+use Rattle.typed_tree.specs.BlockTree.{StatementKindTree, Simple, If, IfElse, While, For, BlockTree, Empty, Then}
 use Rattle.typed_tree.specs.ProgramTree.{ProgramTree}
 use Rattle.apply_options.specs.ScheduleTree.{ScheduleTree}
 use Rattle.algorithm_meaning.specs.declared.state.Depth.{Depth}
@@ -42,20 +41,7 @@ module _ (p : ProgramTree) (s : ScheduleTree) (low high : ℕ) where
   mutual
     pub action_between : (a : StatementKindTree) (index : ℕ) (d : Depth) (number : ℕ) (label : Option ℕ) (n : ℕ) → (low ≤ number) × (number < high) → InOrder n (inner_numbers a) → low ≤ n
         → length (inner_numbers a) + n ≤ high → AreBetween low high (plan p s index d number label a)
-    action_between (DeclareInt name e) index d number label n own order from to = (own, tt)
-    action_between (DeclareBool name c) index d number label n own order from to = (own, tt)
-    action_between (SetInt slot e) index d number label n own order from to = (own, tt)
-    action_between (SetBool slot c) index d number label n own order from to = (own, tt)
-    action_between (ReduceInt slot by e) index d number label n own order from to = (own, tt)
-    action_between (SetEntry vector subscript e) index d number label n own order from to = (own, tt)
-    action_between (ReduceEntry vector subscript by e) index d number label n own order from to = (own, tt)
-    action_between (DeclareSet name value) index d number label n own order from to = (own, tt)
-    action_between (AssignSet slot value) index d number label n own order from to = (own, tt)
-    action_between (AddVertex slot e) index d number label n own order from to = (own, tt)
-    action_between (PrintInt e) index d number label n own order from to = (own, tt)
-    action_between (PrintBool c) index d number label n own order from to = (own, tt)
-    action_between (ApplyVertex set function) index d number label n own order from to = (own, tt)
-    action_between (ApplyEdges ends function) index d number label n own order from to = (own, tt)
+    action_between (Simple a) index d number label n own order from to = (own, tt)
     action_between (If c body) index d number label n own order from to = (own, block_between body (index + 1) d false n order from to)
     action_between (IfElse c body other) index d number label n own order from to =
         let to_other = index + 1 + size_all p s d false body + 1 in

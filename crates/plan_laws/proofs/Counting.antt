@@ -2,13 +2,13 @@
 use Rattle.std.proofs.Common.{◌≡◌, ◌≢◌, ℕ, zero, suc, ◌+◌, ◌≤◌, ◌<◌, ℤ, pos, Bool, true, false, List, [], ◌∷◌, ◌++◌, length, length-append, take, Option, Some, None, slice_get, slice_set}
 use Rattle.std.proofs.Common.{slice_index_or, int_lt, if◌then◌else◌, MatchOption, refl, ap, sym, ◌∙◌, arith, subst}
 use Rattle.std.proofs.lemmas.List.{length-take-le, length-set}
-use Rattle.typed_tree.specs.BlockTree.{StatementKindTree, DeclareInt, DeclareBool, SetInt, SetBool, ReduceInt, SetEntry, ReduceEntry, DeclareSet, AssignSet, AddVertex}
-use Rattle.typed_tree.specs.BlockTree.{PrintInt, PrintBool, ApplyVertex, ApplyEdges, If, IfElse, While, For}
+use Rattle.typed_tree.specs.BlockTree.{SimpleStatementTree, DeclareInt, DeclareBool, SetInt, SetBool, ReduceInt, SetEntry, ReduceEntry, DeclareSet, AssignSet, AddVertex}
+use Rattle.typed_tree.specs.BlockTree.{PrintInt, PrintBool, ApplyVertex, ApplyEdges, Simple}
 use Rattle.typed_tree.specs.ProgramTree.{ProgramTree}
 use Rattle.algorithm_meaning.specs.State.{GraphValue, StateValue}
 use Rattle.algorithm_meaning.specs.Arithmetic.{reduced}
 use Rattle.algorithm_meaning.specs.Stand.{Stand, Live, Over, with_value, int_value_in, bool_value_in, vertex_in}
-use Rattle.algorithm_meaning.specs.Meaning.{after}
+use Rattle.algorithm_meaning.specs.Meaning.{after_simple}
 use Rattle.algorithm_meaning.specs.Loop.{forget_beyond, next_of}
 use Rattle.algorithm_meaning.specs.declared.state.LoopCounter.{LoopCounter}
 use Rattle.algorithm_meaning.specs.declared.state.Depth.{Depth}
@@ -17,7 +17,6 @@ use Rattle.plans.specs.Instruction.{Jump, End, InstructionTree}
 use Rattle.plans.specs.Machine.{Configuration, At, Ended, with_result, with_results, after_parts, go_on, after_unless, after_enter, after_unless_below, after_advance, after_turn, act, act_at, step}
 use Rattle.plans.specs.Machine.{steps}
 use Rattle.plans.specs.Plan.{depth_after}
-use Rattle.plans.proofs.Proper.{HasNoBlock}
 use Rattle.type_laws.specs.LoopVariables.{IsOutside, KeepsInside}
 use Rattle.plan_laws.specs.LoopCounters.{AreCounters, NamesInnermost, CountersAreVariables}
 use Rattle.type_laws.proofs.LoopStatements.{AreBelow, below_more}
@@ -87,36 +86,32 @@ by_value (Some x) number is rs n s go h = h x
 
 module _ (p : ProgramTree) (g : GraphValue) where
   -- a statement without a block that assigns no variable of a loop
-  counters_after : (a : StatementKindTree) → HasNoBlock a → (d : Depth) (is : List ℕ) (rs : List LoopCounter) (number : ℕ) (s : StateValue) → KeepsInside d.integers is a
+  counters_after : (a : SimpleStatementTree) (d : Depth) (is : List ℕ) (rs : List LoopCounter) (number : ℕ) (s : StateValue) → KeepsInside d.integers is (Simple a)
       → AreCounters is rs s.scope.integers
-      → d.integers ≤ length s.scope.integers → HasCounters is rs (depth_after a d).integers (after p g number a s)
-  counters_after (DeclareInt name e) alone d is rs number s keeps are long =
+      → d.integers ≤ length s.scope.integers → HasCounters is rs (depth_after (Simple a) d).integers (after_simple p g number a s)
+  counters_after (DeclareInt name e) d is rs number s keeps are long =
       by_value (int_value_in g.vertices e s) number is rs (d.integers + 1) s _
       (λ n. (counters_joined is rs s.scope.integers (n ∷ []) are, omega (arith, long, length-append s.scope.integers (n ∷ []))))
-  counters_after (DeclareBool name c) alone d is rs number s keeps are long = by_value (bool_value_in g.vertices c s) number is rs d.integers s _ (λ b. (are, long))
-  counters_after (SetInt slot e) alone d is rs number s keeps are long =
+  counters_after (DeclareBool name c) d is rs number s keeps are long = by_value (bool_value_in g.vertices c s) number is rs d.integers s _ (λ b. (are, long))
+  counters_after (SetInt slot e) d is rs number s keeps are long =
       by_value (int_value_in g.vertices e s) number is rs d.integers s _
       (λ n. (counters_set is rs s.scope.integers slot.index n keeps are, omega (arith, long, length-set s.scope.integers slot.index n)))
-  counters_after (SetBool slot c) alone d is rs number s keeps are long = by_value (bool_value_in g.vertices c s) number is rs d.integers s _ (λ b. (are, long))
-  counters_after (ReduceInt slot reduction e) alone d is rs number s keeps are long =
+  counters_after (SetBool slot c) d is rs number s keeps are long = by_value (bool_value_in g.vertices c s) number is rs d.integers s _ (λ b. (are, long))
+  counters_after (ReduceInt slot reduction e) d is rs number s keeps are long =
       by_value (int_value_in g.vertices e s) number is rs d.integers s _
       (λ n. (let x : ℤ = reduced reduction (slice_index_or s.scope.integers slot.index (pos 0)) n in
       (counters_set is rs s.scope.integers slot.index x keeps are, omega (arith, long, length-set s.scope.integers slot.index x))))
-  counters_after (SetEntry vector index e) alone d is rs number s keeps are long =
+  counters_after (SetEntry vector index e) d is rs number s keeps are long =
       by_value (vertex_in g.vertices index s) number is rs d.integers s _ (λ v. by_value (int_value_in g.vertices e s) number is rs d.integers s _ (λ n. (are, long)))
-  counters_after (ReduceEntry vector index reduction e) alone d is rs number s keeps are long =
+  counters_after (ReduceEntry vector index reduction e) d is rs number s keeps are long =
       by_value (vertex_in g.vertices index s) number is rs d.integers s _ (λ v. by_value (int_value_in g.vertices e s) number is rs d.integers s _ (λ n. (are, long)))
-  counters_after (DeclareSet name set) alone d is rs number s keeps are long = (are, long)
-  counters_after (AssignSet slot set) alone d is rs number s keeps are long = (are, long)
-  counters_after (AddVertex slot e) alone d is rs number s keeps are long = by_value (vertex_in g.vertices e s) number is rs d.integers s _ (λ v. (are, long))
-  counters_after (PrintInt e) alone d is rs number s keeps are long = by_value (int_value_in g.vertices e s) number is rs d.integers s _ (λ n. (are, long))
-  counters_after (PrintBool c) alone d is rs number s keeps are long = by_value (bool_value_in g.vertices c s) number is rs d.integers s _ (λ b. (are, long))
-  counters_after (ApplyVertex set function) alone d is rs number s keeps are long = (are, long)
-  counters_after (ApplyEdges ends function) alone d is rs number s keeps are long = (are, long)
-  counters_after (If c body) alone d is rs number s keeps are long = absurd alone
-  counters_after (IfElse c body other) alone d is rs number s keeps are long = absurd alone
-  counters_after (While c body) alone d is rs number s keeps are long = absurd alone
-  counters_after (For name first end body) alone d is rs number s keeps are long = absurd alone
+  counters_after (DeclareSet name set) d is rs number s keeps are long = (are, long)
+  counters_after (AssignSet slot set) d is rs number s keeps are long = (are, long)
+  counters_after (AddVertex slot e) d is rs number s keeps are long = by_value (vertex_in g.vertices e s) number is rs d.integers s _ (λ v. (are, long))
+  counters_after (PrintInt e) d is rs number s keeps are long = by_value (int_value_in g.vertices e s) number is rs d.integers s _ (λ n. (are, long))
+  counters_after (PrintBool c) d is rs number s keeps are long = by_value (bool_value_in g.vertices c s) number is rs d.integers s _ (λ b. (are, long))
+  counters_after (ApplyVertex set function) d is rs number s keeps are long = (are, long)
+  counters_after (ApplyEdges ends function) d is rs number s keeps are long = (are, long)
 
 integers_of_result : (n : ℕ) (xs ys : List (List ℤ)) (r : ResultTree) (s : StateValue) → (with_result n xs ys r s).scope.integers ≡ s.scope.integers
 integers_of_result n xs ys Dropped s = refl
@@ -218,8 +213,8 @@ module _ (p : ProgramTree) (g : GraphValue) (code : List InstructionTree) (table
       → keep.integers ≤ length s.scope.integers → AreCounters is loops s.scope.integers → Stays (act p g operation number shown index loops (forget_beyond keep s))
   act_stays (Do a) number index keep shown is loops s here long are =
       let count = length-take-le keep.integers s.scope.integers long in
-      after_go_on (after p g number a (forget_beyond keep s)) (index + 1) is (depth_after a keep).integers loops shown here.2
-      (counters_after p g a here.0 keep is loops number (forget_beyond keep s) here.1 (counters_taken is loops keep.integers s.scope.integers here.3 are) (omega (arith, count)))
+      after_go_on (after_simple p g number a (forget_beyond keep s)) (index + 1) is (depth_after (Simple a) keep).integers loops shown here.1
+      (counters_after p g a keep is loops number (forget_beyond keep s) here.0 (counters_taken is loops keep.integers s.scope.integers here.2 are) (omega (arith, count)))
   act_stays (ApplyEdgesTogether ends a b) number index keep shown is loops s here long are =
       let t = forget_beyond keep s in
       let count = length-take-le keep.integers s.scope.integers long in

@@ -13,7 +13,7 @@ use Rattle.typed_tree.specs.declared.statement.VertexFilter.{VertexFilter}
 use Rattle.typed_tree.specs.declared.statement.VertexFilter.TheVariants as end
 use Rattle.typed_tree.specs.IntExpressionTree.{IntExpressionTree}
 use Rattle.typed_tree.specs.BlockTree as action
-use Rattle.typed_tree.specs.BlockTree.{StatementKindTree}
+use Rattle.typed_tree.specs.BlockTree.{SimpleStatementTree}
 use Rattle.typed_tree.specs.ProgramTree.{ProgramTree}
 use Rattle.plans.specs.Instruction as operation
 use Rattle.plans.specs.Instruction.{InstructionTree, OperationTree}
@@ -198,7 +198,7 @@ set_line_are p name (set.Modified ends function vector) apply_schedule are =
 word_and_brackets : (word : List ℕ) (words : List (List ℕ)) → IsBare word → AreBare words → AreLineWords (word ∷ bracketed words ∷ [])
 word_and_brackets word words is are = (plain_word word is, (in_brackets words are, tt))
 
-statement_are : (p : ProgramTree) (action : StatementKindTree) (apply_schedule : ApplySchedule) → HasBareNames p → AreLineWords (statement_words p action apply_schedule)
+statement_are : (p : ProgramTree) (action : SimpleStatementTree) (apply_schedule : ApplySchedule) → HasBareNames p → AreLineWords (statement_words p action apply_schedule)
 statement_are p (action.DeclareInt name e) apply_schedule are = set_are (program_name_at p name) (integer_words p e) (name_is_bare p name are) (integer_bare p e are)
 statement_are p (action.DeclareBool name c) apply_schedule are = set_are (program_name_at p name) (condition_words p c) (name_is_bare p name are) (condition_bare p c are)
 statement_are p (action.SetInt slot e) apply_schedule are = set_are (program_name_at p slot.name) (integer_words p e) (name_is_bare p slot.name are) (integer_bare p e are)
@@ -216,10 +216,6 @@ statement_are p (action.PrintInt e) apply_schedule are = word_and_brackets (code
 statement_are p (action.PrintBool c) apply_schedule are = word_and_brackets (codes "print") (condition_words p c) (bare (codes "print") refl) (condition_bare p c are)
 statement_are p (action.ApplyVertex slot function) apply_schedule are = vertices_are p slot function None are
 statement_are p (action.ApplyEdges ends function) apply_schedule are = edges_are p ends (one_part function None) None apply_schedule are
-statement_are p (action.If c body) apply_schedule are = tt
-statement_are p (action.IfElse c body other) apply_schedule are = tt
-statement_are p (action.While c body) apply_schedule are = tt
-statement_are p (action.For name first last body) apply_schedule are = tt
 
 end_name_bare : (p : ProgramTree) (name : ℕ) → HasBareNames p → IsBare (end_name p name)
 end_name_bare p name are = marked_is_bare (program_name_at p name) (codes ".end") (name_is_bare p name are) (bare (codes ".end") refl)

@@ -13,7 +13,7 @@ use Rattle.typed_tree.specs.declared.statement.VertexFilter.{VertexFilter}
 use Rattle.typed_tree.specs.declared.statement.VertexFilter.TheVariants as end
 use Rattle.typed_tree.specs.FunctionStatementTree.{FunctionTree}
 use Rattle.typed_tree.specs.BlockTree as action
-use Rattle.typed_tree.specs.BlockTree.{StatementKindTree}
+use Rattle.typed_tree.specs.BlockTree.{SimpleStatementTree}
 use Rattle.typed_tree.specs.ProgramTree.{ProgramTree}
 use Rattle.plans.specs.Fusing.{modifying}
 use Rattle.plans.specs.Instruction as operation
@@ -40,8 +40,8 @@ set_names p name (set.Copy slot) apply_schedule = refl
 set_names p name (set.Filter slot function) apply_schedule = refl
 set_names p name (set.Modified ends function vector) apply_schedule = refl
 
-action_names : (p : ProgramTree) (action : StatementKindTree) (apply_schedule : ApplySchedule)
-    → names_of_kind (kind_of_action action) (statement_words p action apply_schedule ++ []) ≡ names_of_action p action
+action_names : (p : ProgramTree) (action : SimpleStatementTree) (apply_schedule : ApplySchedule)
+    → names_of_kind (Some (kind_of_action action)) (statement_words p action apply_schedule ++ []) ≡ names_of_action p action
 action_names p (action.DeclareInt name e) apply_schedule = refl
 action_names p (action.DeclareBool name c) apply_schedule = refl
 action_names p (action.SetInt slot e) apply_schedule = refl
@@ -56,12 +56,8 @@ action_names p (action.PrintInt e) apply_schedule = refl
 action_names p (action.PrintBool c) apply_schedule = refl
 action_names p (action.ApplyVertex slot function) apply_schedule = refl
 action_names p (action.ApplyEdges ends function) apply_schedule = refl
-action_names p (action.If c body) apply_schedule = refl
-action_names p (action.IfElse c body other) apply_schedule = refl
-action_names p (action.While c body) apply_schedule = refl
-action_names p (action.For name first last body) apply_schedule = refl
 
-names_at : (p : ProgramTree) (apply_schedule : ApplySchedule) (o : OperationTree) → names_of_kind (instruction_kind_of o) (operation_words p apply_schedule o ++ target_words o) ≡ names_of p o
+names_at : (p : ProgramTree) (apply_schedule : ApplySchedule) (o : OperationTree) → names_of_kind (Some (instruction_kind_of o)) (operation_words p apply_schedule o ++ target_words o) ≡ names_of p o
 names_at p apply_schedule (operation.Do action) = action_names p action apply_schedule
 names_at p apply_schedule (operation.ApplyEdgesTogether ends first second) = refl
 names_at p apply_schedule (operation.ApplyVerticesTogether slot first second) = refl
@@ -89,8 +85,8 @@ no_reduction_of_set (set.Copy slot) words = refl
 no_reduction_of_set (set.Filter slot function) words = refl
 no_reduction_of_set (set.Modified ends function vector) words = refl
 
-action_reduction : (p : ProgramTree) (action : StatementKindTree) (apply_schedule : ApplySchedule)
-    → reduction_after (kind_of_action action) (statement_words p action apply_schedule ++ []) ≡ reduction_of (operation.Do action)
+action_reduction : (p : ProgramTree) (action : SimpleStatementTree) (apply_schedule : ApplySchedule)
+    → reduction_after (Some (kind_of_action action)) (statement_words p action apply_schedule ++ []) ≡ reduction_of (operation.Do action)
 action_reduction p (action.DeclareInt name e) apply_schedule = refl
 action_reduction p (action.DeclareBool name c) apply_schedule = refl
 action_reduction p (action.SetInt slot e) apply_schedule = refl
@@ -105,12 +101,9 @@ action_reduction p (action.PrintInt e) apply_schedule = refl
 action_reduction p (action.PrintBool c) apply_schedule = refl
 action_reduction p (action.ApplyVertex slot function) apply_schedule = refl
 action_reduction p (action.ApplyEdges ends function) apply_schedule = refl
-action_reduction p (action.If c body) apply_schedule = refl
-action_reduction p (action.IfElse c body other) apply_schedule = refl
-action_reduction p (action.While c body) apply_schedule = refl
-action_reduction p (action.For name first last body) apply_schedule = refl
 
-reduction_at : (p : ProgramTree) (apply_schedule : ApplySchedule) (o : OperationTree) → reduction_after (instruction_kind_of o) (operation_words p apply_schedule o ++ target_words o) ≡ reduction_of o
+reduction_at : (p : ProgramTree) (apply_schedule : ApplySchedule) (o : OperationTree)
+    → reduction_after (Some (instruction_kind_of o)) (operation_words p apply_schedule o ++ target_words o) ≡ reduction_of o
 reduction_at p apply_schedule (operation.Do action) = action_reduction p action apply_schedule
 reduction_at p apply_schedule (operation.ApplyEdgesTogether ends first second) = refl
 reduction_at p apply_schedule (operation.ApplyVerticesTogether slot first second) = refl
@@ -227,8 +220,8 @@ set_edges p name (set.Modified ends function vector) make apply_schedule none sa
     ∙ ap (λ (x : Option (List ℕ × List ℕ)). with_parts (end_names p ends.from) (end_names p ends.to) (record { function = function_at p p.edge_functions function; changed = x }) None)
     (sym (same vector))
 
-action_edges : (p : ProgramTree) (action : StatementKindTree) (apply_schedule : ApplySchedule) → HasNoMarks p
-    → edges_behind (kind_of_action action) (statement_words p action apply_schedule ++ []) ≡ edges_of p (operation.Do action)
+action_edges : (p : ProgramTree) (action : SimpleStatementTree) (apply_schedule : ApplySchedule) → HasNoMarks p
+    → edges_behind (Some (kind_of_action action)) (statement_words p action apply_schedule ++ []) ≡ edges_of p (operation.Do action)
 action_edges p (action.DeclareInt name e) apply_schedule none = refl
 action_edges p (action.DeclareBool name c) apply_schedule none = refl
 action_edges p (action.SetInt slot e) apply_schedule none = refl
@@ -243,10 +236,6 @@ action_edges p (action.PrintInt e) apply_schedule none = refl
 action_edges p (action.PrintBool c) apply_schedule none = refl
 action_edges p (action.ApplyVertex slot function) apply_schedule none = refl
 action_edges p (action.ApplyEdges ends function) apply_schedule none = edges_read p ends (one_part function None) None apply_schedule none
-action_edges p (action.If c body) apply_schedule none = refl
-action_edges p (action.IfElse c body other) apply_schedule none = refl
-action_edges p (action.While c body) apply_schedule none = refl
-action_edges p (action.For name first last body) apply_schedule none = refl
 
 both_edges : (p : ProgramTree) (ends : ApplyEnds) (first second : EdgePartTree)
     → Some (edges_named p ends (shown_part first) (Some (shown_part second))) ≡ Some (apply_names p ends first (Some second))
@@ -260,7 +249,7 @@ both_edges p ends first second =
     ∙ ap (λ (x : Option (List ℕ × List ℕ)). with_parts from to (part_names p first) (Some (record { function = g; changed = x }))) (named_is p second.result)
 
 edges_at : (p : ProgramTree) (apply_schedule : ApplySchedule) (o : OperationTree) → HasNoMarks p
-    → edges_behind (instruction_kind_of o) (operation_words p apply_schedule o ++ target_words o) ≡ edges_of p o
+    → edges_behind (Some (instruction_kind_of o)) (operation_words p apply_schedule o ++ target_words o) ≡ edges_of p o
 edges_at p apply_schedule (operation.Do action) none = action_edges p action apply_schedule none
 edges_at p apply_schedule (operation.ApplyEdgesTogether ends first second) none =
     edges_read p ends (shown_part first) (Some (shown_part second)) apply_schedule none ∙ both_edges p ends first second

@@ -5,7 +5,7 @@ use Rattle.std.specs.List.{AllByRecursion}
 use Rattle.std.proofs.lemmas.Bool.{eq-eqb, eqb-true}
 use Rattle.std.proofs.lemmas.List.{append_assoc}
 use Rattle.std.proofs.lemmas.Option.{none-some}
-use Rattle.typed_tree.specs.BlockTree.{StatementKindTree, DeclareSet, If, IfElse, While, For, BlockTree, Empty, Then}
+use Rattle.typed_tree.specs.BlockTree.{StatementKindTree, Simple, DeclareSet, If, IfElse, While, For, BlockTree, Empty, Then}
 use Rattle.typed_tree.specs.ProgramTree.{ProgramTree}
 use Rattle.typed_tree.specs.Resolved as resolved
 use Rattle.typed_tree.specs.Resolved.{VisibleTree, ActionIsResolved, BlockIsResolved, after_action}
@@ -76,11 +76,8 @@ pub record IsPair (p : ProgramTree) (s : ScheduleTree) (one other : StatementTre
 
 -- no block is in the statement
 abbrev IsPlain : StatementKindTree → Type 0
-IsPlain (If c body) = ⊥
-IsPlain (IfElse c body other) = ⊥
-IsPlain (While c body) = ⊥
-IsPlain (For name start end body) = ⊥
-IsPlain _ = Unit {0}
+IsPlain (Simple a) = Unit {0}
+IsPlain _ = ⊥
 
 -- the first statement of a block that is done already is the second of a fusing, and has no block
 abbrev IsDone : ScheduleTree → Bool → BlockTree → Type 0
@@ -97,11 +94,8 @@ module _ (p : ProgramTree) (s : ScheduleTree) (pairs : FusesInPairs s) where
   no_second d (Some x) (Some y) = refl
 
   second_is_plain : (d : Depth) (a b : StatementKindTree) (o : OperationTree) → together p d a b ≡ Some o → IsPlain b
-  second_is_plain d a (If c body) o is = absurd (none-some o (sym (no_second d (edge_apply_of a) (vertex_apply_of a)) ∙ is))
-  second_is_plain d a (IfElse c body other) o is = absurd (none-some o (sym (no_second d (edge_apply_of a) (vertex_apply_of a)) ∙ is))
-  second_is_plain d a (While c body) o is = absurd (none-some o (sym (no_second d (edge_apply_of a) (vertex_apply_of a)) ∙ is))
-  second_is_plain d a (For name start end body) o is = absurd (none-some o (sym (no_second d (edge_apply_of a) (vertex_apply_of a)) ∙ is))
-  second_is_plain d a _ o is = tt
+  second_is_plain d a (Simple b) o is = tt
+  second_is_plain d a _ o is = absurd (none-some o (sym (no_second d (edge_apply_of a) (vertex_apply_of a)) ∙ is))
 
   -- the label that a schedule fuses another with
   second_fused : (label other : Option ℕ) → is_with (apply_schedule_at label s).fused other ≡ true → (first : ℕ) × ((apply_schedule_at other s).fused ≡ Some (Into first))
@@ -149,11 +143,8 @@ module _ (p : ProgramTree) (s : ScheduleTree) (pairs : FusesInPairs s) where
 
   inside_alone : (one other : StatementTree) (d : Depth) (is_done : Bool) (number : ℕ) (label : Option ℕ) (a : StatementKindTree) (rest : BlockTree) → AreNeighboursInside one other a
       → IsDone s is_done (Then number label a rest) → fusion_role_of p s d is_done label a rest ≡ Alone
-  inside_alone one other d is_done number label (If c body) rest are done = block_alone d is_done number label (If c body) rest (λ plain. plain) refl refl done
-  inside_alone one other d is_done number label (IfElse c body others) rest are done = block_alone d is_done number label (IfElse c body others) rest (λ plain. plain) refl refl done
-  inside_alone one other d is_done number label (While c body) rest are done = block_alone d is_done number label (While c body) rest (λ plain. plain) refl refl done
-  inside_alone one other d is_done number label (For name start end body) rest are done = block_alone d is_done number label (For name start end body) rest (λ plain. plain) refl refl done
-  inside_alone one other d is_done number label _ rest are done = absurd are
+  inside_alone one other d is_done number label (Simple a) rest are done = absurd are
+  inside_alone one other d is_done number label a rest are done = block_alone d is_done number label a rest (λ plain. plain) refl refl done
 
   -- the first of a fusing is done with the second
   not_second : (is_done : Bool) (number : ℕ) (label : Option ℕ) (a : StatementKindTree) (rest : BlockTree) (second : ℕ) → (apply_schedule_at label s).fused ≡ Some (With second)
@@ -179,11 +170,11 @@ module _ (p : ProgramTree) (s : ScheduleTree) (pairs : FusesInPairs s) where
       ∙ taken (nat_eq second second) o (eq-eqb second second refl)
 
   deep_after : (a : StatementKindTree) (d : Depth) (v : VisibleTree) → d.sets ≡ length v.sets → (depth_after a d).sets ≡ length (after_action a v).sets
-  deep_after (DeclareSet name value) d v deep = omega (arith, deep, length-append v.sets (name ∷ []))
+  deep_after (Simple (DeclareSet name value)) d v deep = omega (arith, deep, length-append v.sets (name ∷ []))
   deep_after _ d v deep = deep
 
   low_after : (a : StatementKindTree) (d : Depth) → length p.sets ≤ d.sets → length p.sets ≤ (depth_after a d).sets
-  low_after (DeclareSet name value) d low = omega (arith, low)
+  low_after (Simple (DeclareSet name value)) d low = omega (arith, low)
   low_after _ d low = low
 
   -- as the first two statements of a block
@@ -309,7 +300,7 @@ module _ (p : ProgramTree) (s : ScheduleTree) (pairs : FusesInPairs s) where
           (split_before s one other (plan_all p s (index + 4) inner false body) (plain number d (Advance name) ∷ loop_step number inner d (Jump (index + 2)) ∷ [])
           (split_block body (index + 4) inner (resolved.in_loop name v) false n are deep low known.3 order tt)
           (neither_of (plain number d (Advance name)) first up.two, (neither_of (loop_step number inner d (Jump (index + 2))) first up.two, tt))))))
-      split_inside _ index d v number label n are deep low known above order = absurd are
+      split_inside (Simple a) index d v number label n are deep low known above order = absurd are
 
       pub split_block : (block : BlockTree) (index : ℕ) (d : Depth) (v : VisibleTree) (is_done : Bool) (n : ℕ) → AreNeighbours one other block → d.sets ≡ length v.sets
           → length p.sets ≤ d.sets → BlockIsResolved p v block → InOrder n (numbers block) → IsDone s is_done block → Splits (plan_all p s index d is_done block)

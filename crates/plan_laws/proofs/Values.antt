@@ -10,7 +10,7 @@ use Rattle.typed_tree.specs.declared.statement.SetValue.{SetValue}
 use Rattle.typed_tree.specs.declared.statement.SetValue.TheVariants as set
 use Rattle.typed_tree.specs.IntExpressionTree.{IntExpressionTree}
 use Rattle.typed_tree.specs.BlockTree as action
-use Rattle.typed_tree.specs.BlockTree.{StatementKindTree}
+use Rattle.typed_tree.specs.BlockTree.{SimpleStatementTree}
 use Rattle.typed_tree.specs.ProgramTree.{ProgramTree}
 use Rattle.algorithm_meaning.specs.declared.state.LoopCounter.{LoopCounter}
 use Rattle.algorithm_meaning.specs.Arithmetic.{reduced}
@@ -45,8 +45,8 @@ no_values names words (set.Copy slot) = refl
 no_values names words (set.Filter slot function) = refl
 no_values names words (set.Modified ends function vector) = refl
 
-action_values : (p : ProgramTree) (names : Names) (s : StateValue) (action : StatementKindTree) (apply_schedule : ApplySchedule) → HasNamesOfOneWord p → ActionIsGiven p names s action
-    → read_indices names (statement_words p action apply_schedule ++ []) (bracket_indices (kind_of_action action)) ≡ values_of_action names.vertices s action
+action_values : (p : ProgramTree) (names : Names) (s : StateValue) (action : SimpleStatementTree) (apply_schedule : ApplySchedule) → HasNamesOfOneWord p → ActionIsGiven p names s action
+    → read_indices names (statement_words p action apply_schedule ++ []) (bracket_indices (Some (kind_of_action action))) ≡ values_of_action names.vertices s action
 action_values p names s (action.DeclareInt name e) apply_schedule one given = one_value _ _ (integer_in_brackets p names s e one given)
 action_values p names s (action.DeclareBool name c) apply_schedule one given = one_value _ _ (condition_in_brackets p names s c one given)
 action_values p names s (action.SetInt slot e) apply_schedule one given = one_value _ _ (integer_in_brackets p names s e one given)
@@ -63,10 +63,6 @@ action_values p names s (action.PrintInt e) apply_schedule one given = one_value
 action_values p names s (action.PrintBool c) apply_schedule one given = one_value _ _ (condition_in_brackets p names s c one given)
 action_values p names s (action.ApplyVertex slot function) apply_schedule one given = refl
 action_values p names s (action.ApplyEdges ends function) apply_schedule one given = refl
-action_values p names s (action.If c body) apply_schedule one given = refl
-action_values p names s (action.IfElse c body other) apply_schedule one given = refl
-action_values p names s (action.While c body) apply_schedule one given = refl
-action_values p names s (action.For name first last body) apply_schedule one given = refl
 
 -- the test and the next number of a `for`
 end_is_one : (p : ProgramTree) (name : ℕ) → HasNamesOfOneWord p → IsOneWord (end_name p name)
@@ -88,7 +84,7 @@ next_read p names name r one first =
     ∙ ap (option_and_then (read_words names (codes "1" ∷ codes "+" ∷ []))) (read_name names (program_name_at p name) (Number r.next) [] first)
 
 operation_values : (p : ProgramTree) (names : Names) (r : LoopCounter) (s : StateValue) (apply_schedule : ApplySchedule) (o : OperationTree) → HasNamesOfOneWord p → OperationIsGiven p names r s o
-    → read_indices names (operation_words p apply_schedule o ++ target_words o) (bracket_indices (instruction_kind_of o)) ≡ values_of names.vertices r s o
+    → read_indices names (operation_words p apply_schedule o ++ target_words o) (bracket_indices (Some (instruction_kind_of o))) ≡ values_of names.vertices r s o
 operation_values p names r s apply_schedule (operation.Do action) one given = action_values p names s action apply_schedule one given
 operation_values p names r s apply_schedule (operation.ApplyEdgesTogether ends first second) one given = refl
 operation_values p names r s apply_schedule (operation.ApplyVerticesTogether slot first second) one given = refl

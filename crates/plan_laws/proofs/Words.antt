@@ -15,7 +15,7 @@ use Rattle.typed_tree.specs.declared.statement.ApplyEnds.{ApplyEnds}
 use Rattle.typed_tree.specs.declared.statement.SetValue.{SetValue}
 use Rattle.typed_tree.specs.declared.statement.SetValue.TheVariants as set
 use Rattle.typed_tree.specs.BlockTree as action
-use Rattle.typed_tree.specs.BlockTree.{StatementKindTree}
+use Rattle.typed_tree.specs.BlockTree.{SimpleStatementTree}
 use Rattle.typed_tree.specs.ProgramTree.{ProgramTree}
 use Rattle.plans.specs.Instruction as operation
 use Rattle.plans.specs.Instruction.{OperationTree, InstructionTree}
@@ -35,7 +35,7 @@ set_kind p name (set.Copy slot) apply_schedule = refl
 set_kind p name (set.Filter slot function) apply_schedule = refl
 set_kind p name (set.Modified ends function vector) apply_schedule = refl
 
-action_kind : (p : ProgramTree) (action : StatementKindTree) (apply_schedule : ApplySchedule) → kind_in (statement_words p action apply_schedule ++ []) ≡ kind_of_action action
+action_kind : (p : ProgramTree) (action : SimpleStatementTree) (apply_schedule : ApplySchedule) → kind_in (statement_words p action apply_schedule ++ []) ≡ Some (kind_of_action action)
 action_kind p (action.DeclareInt name e) apply_schedule = refl
 action_kind p (action.DeclareBool name c) apply_schedule = refl
 action_kind p (action.SetInt slot e) apply_schedule = refl
@@ -50,12 +50,8 @@ action_kind p (action.PrintInt e) apply_schedule = refl
 action_kind p (action.PrintBool c) apply_schedule = refl
 action_kind p (action.ApplyVertex slot function) apply_schedule = refl
 action_kind p (action.ApplyEdges ends function) apply_schedule = refl
-action_kind p (action.If c body) apply_schedule = refl
-action_kind p (action.IfElse c body other) apply_schedule = refl
-action_kind p (action.While c body) apply_schedule = refl
-action_kind p (action.For name first last body) apply_schedule = refl
 
-kind_at : (p : ProgramTree) (apply_schedule : ApplySchedule) (o : OperationTree) → kind_in (operation_words p apply_schedule o ++ target_words o) ≡ instruction_kind_of o
+kind_at : (p : ProgramTree) (apply_schedule : ApplySchedule) (o : OperationTree) → kind_in (operation_words p apply_schedule o ++ target_words o) ≡ Some (instruction_kind_of o)
 kind_at p apply_schedule (operation.Do action) = action_kind p action apply_schedule
 kind_at p apply_schedule (operation.ApplyEdgesTogether ends first second) = refl
 kind_at p apply_schedule (operation.ApplyVerticesTogether slot first second) = refl
@@ -67,7 +63,7 @@ kind_at p apply_schedule operation.Turn = refl
 kind_at p apply_schedule (operation.Jump to) = refl
 kind_at p apply_schedule operation.End = refl
 
-pub kind_is : (p : ProgramTree) (i : InstructionTree) → kind_in (instruction_words p i) ≡ instruction_kind_of i.operation
+pub kind_is : (p : ProgramTree) (i : InstructionTree) → kind_in (instruction_words p i) ≡ Some (instruction_kind_of i.operation)
 kind_is p i = kind_at p i.apply_schedule i.operation
 
 -- no other index may follow a statement
@@ -78,7 +74,7 @@ no_index_of_set (set.Copy slot) words = refl
 no_index_of_set (set.Filter slot function) words = refl
 no_index_of_set (set.Modified ends function vector) words = refl
 
-no_index : (action : StatementKindTree) (words : List (List ℕ)) → index_behind (kind_of_action action) words ≡ None
+no_index : (action : SimpleStatementTree) (words : List (List ℕ)) → index_behind (Some (kind_of_action action)) words ≡ None
 no_index (action.DeclareInt name e) words = refl
 no_index (action.DeclareBool name c) words = refl
 no_index (action.SetInt slot e) words = refl
@@ -93,16 +89,12 @@ no_index (action.PrintInt e) words = refl
 no_index (action.PrintBool c) words = refl
 no_index (action.ApplyVertex slot function) words = refl
 no_index (action.ApplyEdges ends function) words = refl
-no_index (action.If c body) words = refl
-no_index (action.IfElse c body other) words = refl
-no_index (action.While c body) words = refl
-no_index (action.For name first last body) words = refl
 
 number_is : (to : ℕ) → to < 2 ^ 64 → number_of (2 ^ 64) (decimal to) ≡ Some to
 number_is to below = decimal-IsReadBack (2 ^ 64) to below below 0
 
 index_at : (p : ProgramTree) (apply_schedule : ApplySchedule) (o : OperationTree) → IfSome (index_of o) (λ to. to < 2 ^ 64)
-    → index_behind (instruction_kind_of o) (operation_words p apply_schedule o ++ target_words o) ≡ index_of o
+    → index_behind (Some (instruction_kind_of o)) (operation_words p apply_schedule o ++ target_words o) ≡ index_of o
 index_at p apply_schedule (operation.Do action) below = no_index action (statement_words p action apply_schedule ++ [])
 index_at p apply_schedule (operation.ApplyEdgesTogether ends first second) below = refl
 index_at p apply_schedule (operation.ApplyVerticesTogether slot first second) below = refl
@@ -169,7 +161,7 @@ edges_are p ends first second apply_schedule =
     ap settings_in whole ∙ ap settings_of (last_three front (three_words apply_schedule) refl) ∙ three_are apply_schedule
 
 -- an edge apply is one of these
-set_settings : (p : ProgramTree) (name : ℕ) (value : SetValue) (apply_schedule : ApplySchedule) → Some (kind_of_set value) ≡ Some ApplyEdges
+set_settings : (p : ProgramTree) (name : ℕ) (value : SetValue) (apply_schedule : ApplySchedule) → kind_of_set value ≡ ApplyEdges
     → settings_in (set_instruction_words p name value apply_schedule ++ []) ≡ Some (settings_used apply_schedule)
 set_settings p name set.Empty apply_schedule is = absurd cc
 set_settings p name set.All apply_schedule is = absurd cc
@@ -178,7 +170,7 @@ set_settings p name (set.Filter slot function) apply_schedule is = absurd cc
 set_settings p name (set.Modified ends function vector) apply_schedule is =
     edges_are p ends (one_part function (Some (record { name = name; vector = vector }))) None apply_schedule
 
-action_settings : (p : ProgramTree) (action : StatementKindTree) (apply_schedule : ApplySchedule) → kind_of_action action ≡ Some ApplyEdges
+action_settings : (p : ProgramTree) (action : SimpleStatementTree) (apply_schedule : ApplySchedule) → kind_of_action action ≡ ApplyEdges
     → settings_in (statement_words p action apply_schedule ++ []) ≡ Some (settings_used apply_schedule)
 action_settings p (action.DeclareInt name e) apply_schedule is = absurd cc
 action_settings p (action.DeclareBool name c) apply_schedule is = absurd cc
@@ -194,12 +186,8 @@ action_settings p (action.PrintInt e) apply_schedule is = absurd cc
 action_settings p (action.PrintBool c) apply_schedule is = absurd cc
 action_settings p (action.ApplyVertex slot function) apply_schedule is = absurd cc
 action_settings p (action.ApplyEdges ends function) apply_schedule is = edges_are p ends (one_part function None) None apply_schedule
-action_settings p (action.If c body) apply_schedule is = absurd cc
-action_settings p (action.IfElse c body other) apply_schedule is = absurd cc
-action_settings p (action.While c body) apply_schedule is = absurd cc
-action_settings p (action.For name first last body) apply_schedule is = absurd cc
 
-settings_at : (p : ProgramTree) (apply_schedule : ApplySchedule) (o : OperationTree) → instruction_kind_of o ≡ Some ApplyEdges
+settings_at : (p : ProgramTree) (apply_schedule : ApplySchedule) (o : OperationTree) → instruction_kind_of o ≡ ApplyEdges
     → settings_in (operation_words p apply_schedule o ++ target_words o) ≡ Some (settings_used apply_schedule)
 settings_at p apply_schedule (operation.Do action) is = action_settings p action apply_schedule is
 settings_at p apply_schedule (operation.ApplyEdgesTogether ends first second) is = edges_are p ends (shown_part first) (Some (shown_part second)) apply_schedule
@@ -212,5 +200,5 @@ settings_at p apply_schedule operation.Turn is = absurd cc
 settings_at p apply_schedule (operation.Jump to) is = absurd cc
 settings_at p apply_schedule operation.End is = absurd cc
 
-pub settings_are : (p : ProgramTree) (i : InstructionTree) → instruction_kind_of i.operation ≡ Some ApplyEdges → settings_in (instruction_words p i) ≡ Some (settings_used i.apply_schedule)
+pub settings_are : (p : ProgramTree) (i : InstructionTree) → instruction_kind_of i.operation ≡ ApplyEdges → settings_in (instruction_words p i) ≡ Some (settings_used i.apply_schedule)
 settings_are p i is = settings_at p i.apply_schedule i.operation is

@@ -5,7 +5,7 @@ use Rattle.std.specs.Str.{bytes_eq}
 use Rattle.typed_tree.specs.declared.statement.SetValue.{SetValue}
 use Rattle.typed_tree.specs.declared.statement.SetValue.TheVariants as set
 use Rattle.typed_tree.specs.BlockTree as action
-use Rattle.typed_tree.specs.BlockTree.{StatementKindTree}
+use Rattle.typed_tree.specs.BlockTree.{SimpleStatementTree}
 use Rattle.typed_tree.specs.ProgramTree.{ProgramTree}
 use Rattle.plans.specs.Instruction as operation
 use Rattle.plans.specs.Instruction.{OperationTree, InstructionTree}
@@ -61,37 +61,33 @@ kind_of_set (set.Copy slot) = CopySet
 kind_of_set (set.Filter slot function) = Filter
 kind_of_set (set.Modified ends function vector) = ApplyEdges
 
-abbrev pub kind_of_action : StatementKindTree → Option InstructionKind
-kind_of_action (action.DeclareInt name e) = Some Set
-kind_of_action (action.DeclareBool name c) = Some Set
-kind_of_action (action.SetInt slot e) = Some Set
-kind_of_action (action.SetBool slot c) = Some Set
-kind_of_action (action.ReduceInt slot reduction e) = Some Set
-kind_of_action (action.SetEntry vector index e) = Some Put
-kind_of_action (action.ReduceEntry vector index reduction e) = Some Put
-kind_of_action (action.DeclareSet name value) = Some (kind_of_set value)
-kind_of_action (action.AssignSet slot value) = Some (kind_of_set value)
-kind_of_action (action.AddVertex slot e) = Some AddVertex
-kind_of_action (action.PrintInt e) = Some Print
-kind_of_action (action.PrintBool c) = Some Print
-kind_of_action (action.ApplyVertex slot function) = Some ApplyVertices
-kind_of_action (action.ApplyEdges ends function) = Some ApplyEdges
-kind_of_action (action.If c body) = None
-kind_of_action (action.IfElse c body other) = None
-kind_of_action (action.While c body) = None
-kind_of_action (action.For name first last body) = None
+abbrev pub kind_of_action : SimpleStatementTree → InstructionKind
+kind_of_action (action.DeclareInt name e) = Set
+kind_of_action (action.DeclareBool name c) = Set
+kind_of_action (action.SetInt slot e) = Set
+kind_of_action (action.SetBool slot c) = Set
+kind_of_action (action.ReduceInt slot reduction e) = Set
+kind_of_action (action.SetEntry vector index e) = Put
+kind_of_action (action.ReduceEntry vector index reduction e) = Put
+kind_of_action (action.DeclareSet name value) = kind_of_set value
+kind_of_action (action.AssignSet slot value) = kind_of_set value
+kind_of_action (action.AddVertex slot e) = AddVertex
+kind_of_action (action.PrintInt e) = Print
+kind_of_action (action.PrintBool c) = Print
+kind_of_action (action.ApplyVertex slot function) = ApplyVertices
+kind_of_action (action.ApplyEdges ends function) = ApplyEdges
 
-abbrev pub instruction_kind_of : OperationTree → Option InstructionKind
+abbrev pub instruction_kind_of : OperationTree → InstructionKind
 instruction_kind_of (operation.Do action) = kind_of_action action
-instruction_kind_of (operation.ApplyEdgesTogether ends first second) = Some ApplyEdges
-instruction_kind_of (operation.ApplyVerticesTogether slot first second) = Some ApplyVertices
-instruction_kind_of (operation.Unless c to) = Some Unless
-instruction_kind_of (operation.Enter name e) = Some Set
-instruction_kind_of (operation.UnlessBelow name to) = Some Unless
-instruction_kind_of (operation.Advance name) = Some Set
-instruction_kind_of operation.Turn = Some Turn
-instruction_kind_of (operation.Jump to) = Some Jump
-instruction_kind_of operation.End = Some End
+instruction_kind_of (operation.ApplyEdgesTogether ends first second) = ApplyEdges
+instruction_kind_of (operation.ApplyVerticesTogether slot first second) = ApplyVertices
+instruction_kind_of (operation.Unless c to) = Unless
+instruction_kind_of (operation.Enter name e) = Set
+instruction_kind_of (operation.UnlessBelow name to) = Unless
+instruction_kind_of (operation.Advance name) = Set
+instruction_kind_of operation.Turn = Turn
+instruction_kind_of (operation.Jump to) = Jump
+instruction_kind_of operation.End = End
 
 -- the number of the instruction that an operation may go to
 abbrev pub index_of : OperationTree → Option ℕ

@@ -12,7 +12,7 @@ use Rattle.typed_tree.specs.declared.statement.SetValue.TheVariants as set
 use Rattle.typed_tree.specs.declared.statement.VertexFilter.{VertexFilter}
 use Rattle.typed_tree.specs.declared.statement.VertexFilter.TheVariants as end
 use Rattle.typed_tree.specs.BlockTree as action
-use Rattle.typed_tree.specs.BlockTree.{StatementKindTree}
+use Rattle.typed_tree.specs.BlockTree.{SimpleStatementTree, Simple}
 use Rattle.typed_tree.specs.ProgramTree.{ProgramTree}
 use Rattle.plans.specs.Fusing.{edge_apply_of}
 use Rattle.plans.specs.Instruction as operation
@@ -45,7 +45,7 @@ names_of_set p name (set.Filter slot function) = program_name_at p name ∷ prog
 names_of_set p name (set.Modified ends function vector) = []
 
 -- the variable, the vector or the set that changes; the set and the functions of a vertex apply
-abbrev pub names_of_action : ProgramTree → StatementKindTree → List (List ℕ)
+abbrev pub names_of_action : ProgramTree → SimpleStatementTree → List (List ℕ)
 names_of_action p (action.DeclareInt name e) = program_name_at p name ∷ []
 names_of_action p (action.DeclareBool name c) = program_name_at p name ∷ []
 names_of_action p (action.SetInt slot e) = program_name_at p slot.name ∷ []
@@ -137,7 +137,7 @@ apply_names p ends first second =
     record { from = end_names p ends.from; to = end_names p ends.to; first = part_names p first; second = option_map (part_names p) second }
 
 abbrev pub edges_of : ProgramTree → OperationTree → Option EdgeApplyNames
-edges_of p (operation.Do action) = option_map (λ x. apply_names p x.ends x.part None) (edge_apply_of action)
+edges_of p (operation.Do action) = option_map (λ x. apply_names p x.ends x.part None) (edge_apply_of (Simple action))
 edges_of p (operation.ApplyEdgesTogether ends first second) = Some (apply_names p ends first (Some second))
 edges_of p _ = None
 

@@ -1,8 +1,6 @@
 -- Two statements of main, the second right after the first in a block.
 use Rattle.std.specs.Prelude.{◌≡◌, ◌⊎◌, ℕ, Option}
-use Rattle.typed_tree.specs.BlockTree.{StatementKindTree, DeclareInt, DeclareBool, SetInt, SetBool, ReduceInt, SetEntry, ReduceEntry}
-use Rattle.typed_tree.specs.BlockTree.{DeclareSet, AssignSet, AddVertex, PrintInt, PrintBool, ApplyVertex, ApplyEdges, If, IfElse, While, For}
-use Rattle.typed_tree.specs.BlockTree.{BlockTree, Empty, Then}
+use Rattle.typed_tree.specs.BlockTree.{StatementKindTree, Simple, If, IfElse, While, For, BlockTree, Empty, Then}
 
 -- a statement with its number and its label
 pub record StatementTree : Type 0 where
@@ -18,20 +16,7 @@ BeginsWith s (Then number label action others) = record { number = number; label
 abbrev mutual
   -- the second statement is right after the first in a block of the statement
   pub AreNeighboursInside : (first second : StatementTree) → StatementKindTree → Type 0
-  AreNeighboursInside first second (DeclareInt name e) = ⊥
-  AreNeighboursInside first second (DeclareBool name c) = ⊥
-  AreNeighboursInside first second (SetInt slot e) = ⊥
-  AreNeighboursInside first second (SetBool slot c) = ⊥
-  AreNeighboursInside first second (ReduceInt slot by e) = ⊥
-  AreNeighboursInside first second (SetEntry vector index e) = ⊥
-  AreNeighboursInside first second (ReduceEntry vector index by e) = ⊥
-  AreNeighboursInside first second (DeclareSet name value) = ⊥
-  AreNeighboursInside first second (AssignSet slot value) = ⊥
-  AreNeighboursInside first second (AddVertex slot e) = ⊥
-  AreNeighboursInside first second (PrintInt e) = ⊥
-  AreNeighboursInside first second (PrintBool c) = ⊥
-  AreNeighboursInside first second (ApplyVertex set function) = ⊥
-  AreNeighboursInside first second (ApplyEdges ends function) = ⊥
+  AreNeighboursInside first second (Simple a) = ⊥
   AreNeighboursInside first second (If c body) = AreNeighbours first second body
   AreNeighboursInside first second (IfElse c body other) = AreNeighbours first second body ⊎ AreNeighbours first second other
   AreNeighboursInside first second (While c body) = AreNeighbours first second body

@@ -4,7 +4,7 @@ use Rattle.std.specs.Option.{option_map}
 use Rattle.typed_tree.specs.IntExpressionTree.{IntExpressionTree}
 use Rattle.typed_tree.specs.BoolExpressionTree.{BoolExpressionTree}
 use Rattle.typed_tree.specs.BlockTree as action
-use Rattle.typed_tree.specs.BlockTree.{StatementKindTree}
+use Rattle.typed_tree.specs.BlockTree.{SimpleStatementTree}
 use Rattle.typed_tree.specs.ProgramTree.{ProgramTree}
 use Rattle.algorithm_meaning.specs.declared.state.LoopCounter.{LoopCounter}
 use Rattle.algorithm_meaning.specs.Loop.{next_of}
@@ -42,7 +42,7 @@ abbrev pub truth_on : ℕ → StateValue → BoolExpressionTree → Stack
 truth_on vertices s c = option_map (λ b. Truth b ∷ []) (bool_value_in vertices c s)
 
 -- the values that an instruction takes in a state
-abbrev pub values_of_action : ℕ → StateValue → StatementKindTree → List Stack
+abbrev pub values_of_action : ℕ → StateValue → SimpleStatementTree → List Stack
 values_of_action vertices s (action.DeclareInt name e) = number_on vertices s e ∷ []
 values_of_action vertices s (action.DeclareBool name c) = truth_on vertices s c ∷ []
 values_of_action vertices s (action.SetInt slot e) = number_on vertices s e ∷ []
@@ -64,7 +64,7 @@ values_of vertices r s (operation.Advance name) = Some (Number (next_of r).next 
 values_of vertices r s _ = []
 
 -- it is known what the expressions of an instruction speak of; a variable that is reduced is read by a law of its own
-abbrev pub ActionIsGiven : ProgramTree → Names → StateValue → StatementKindTree → Type 0
+abbrev pub ActionIsGiven : ProgramTree → Names → StateValue → SimpleStatementTree → Type 0
 ActionIsGiven p names s (action.DeclareInt name e) = IntegerIsGiven p names s e
 ActionIsGiven p names s (action.DeclareBool name c) = ConditionIsGiven p names s c
 ActionIsGiven p names s (action.SetInt slot e) = IntegerIsGiven p names s e

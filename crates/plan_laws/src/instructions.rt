@@ -6,10 +6,10 @@ ghost use Rattle.plans.specs.Instruction.{InstructionTree};
 ghost use Rattle.plan_laws.specs.Kinds.{ApplyEdges, instruction_words, kind_in, instruction_kind_of, index_in, index_of};
 ghost use Rattle.plan_laws.specs.Settings.{settings_in, settings_used};
 
-/// The law that the first word of an instruction says its kind: no two kinds share one. A statement with a block is no
-/// instruction, and has no words. The call does nothing.
+/// The law that the first word of an instruction says its kind: no two kinds share one. The call does
+/// nothing.
 pub fn first_words_say_the_kind()
-    ensures { (p : ProgramTree) (i : InstructionTree) → kind_in (instruction_words p i) ≡ instruction_kind_of i.operation }
+    ensures { (p : ProgramTree) (i : InstructionTree) → kind_in (instruction_words p i) ≡ Some (instruction_kind_of i.operation) }
 {}
 
 /// The law that the words of an instruction say where it may continue: at the number that is after a test, or after
@@ -22,6 +22,6 @@ pub fn words_say_where_to_go()
 /// The law that the last three words of an edge apply say by what the engines go: the direction, the parallelization and the
 /// dense vertex sets that the schedule gives it, or what holds where it gives none. The call does nothing.
 pub fn words_say_the_settings()
-    ensures { (p : ProgramTree) (i : InstructionTree) → instruction_kind_of i.operation ≡ Some ApplyEdges
+    ensures { (p : ProgramTree) (i : InstructionTree) → instruction_kind_of i.operation ≡ ApplyEdges
         → settings_in (instruction_words p i) ≡ Some (settings_used i.apply_schedule) }
 {}

@@ -11,8 +11,8 @@ use Rattle.typed_tree.specs.declared.statement.SetValue.TheVariants as set
 use Rattle.typed_tree.specs.IntExpressionTree.{IntExpressionTree}
 use Rattle.typed_tree.specs.BoolExpressionTree.{BoolExpressionTree}
 use Rattle.typed_tree.specs.FunctionStatementTree.{FunctionTree}
-use Rattle.typed_tree.specs.BlockTree.{StatementKindTree, DeclareInt, DeclareBool, SetInt, SetBool, ReduceInt, SetEntry, ReduceEntry}
-use Rattle.typed_tree.specs.BlockTree.{DeclareSet, AssignSet, AddVertex, PrintInt, PrintBool, ApplyVertex, ApplyEdges, If, IfElse, While, For}
+use Rattle.typed_tree.specs.BlockTree.{SimpleStatementTree, DeclareInt, DeclareBool, SetInt, SetBool, ReduceInt, SetEntry, ReduceEntry}
+use Rattle.typed_tree.specs.BlockTree.{DeclareSet, AssignSet, AddVertex, PrintInt, PrintBool, ApplyVertex, ApplyEdges}
 use Rattle.typed_tree.specs.ProgramTree.{ProgramTree}
 use Rattle.apply_options.specs.declared.apply_schedule.ApplySchedule.{ApplySchedule}
 use Rattle.apply_options.specs.declared.apply_schedule.DenseVertexSet.{DenseVertexSet}
@@ -128,8 +128,8 @@ set_instruction_words p name set.All apply_schedule = set_value_words p name set
 set_instruction_words p name (set.Copy slot) apply_schedule = set_value_words p name (set.Copy slot)
 set_instruction_words p name (set.Filter slot index) apply_schedule = set_value_words p name (set.Filter slot index)
 
--- a statement without a block; the placeholder for one with a block is no instruction of its own
-abbrev pub statement_words : ProgramTree → StatementKindTree → ApplySchedule → List (List ℕ)
+-- a statement without a block
+abbrev pub statement_words : ProgramTree → SimpleStatementTree → ApplySchedule → List (List ℕ)
 statement_words p (DeclareInt name e) apply_schedule = set_words (program_name_at p name) (integer_words p e)
 statement_words p (DeclareBool name c) apply_schedule = set_words (program_name_at p name) (condition_words p c)
 statement_words p (SetInt slot e) apply_schedule = set_words (program_name_at p slot.name) (integer_words p e)
@@ -145,10 +145,6 @@ statement_words p (PrintInt e) apply_schedule = codes "print" ∷ bracketed (int
 statement_words p (PrintBool c) apply_schedule = codes "print" ∷ bracketed (condition_words p c) ∷ []
 statement_words p (ApplyVertex set function) apply_schedule = vertices_words p set function None
 statement_words p (ApplyEdges ends function) apply_schedule = edges_words p ends (one_part function None) None apply_schedule
-statement_words p (If c body) apply_schedule = []
-statement_words p (IfElse c body other) apply_schedule = []
-statement_words p (While c body) apply_schedule = []
-statement_words p (For name first last body) apply_schedule = []
 
 -- unless [c], before the index that it goes to
 abbrev pub unless_words : ProgramTree → BoolExpressionTree → List (List ℕ)

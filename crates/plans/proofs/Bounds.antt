@@ -4,7 +4,7 @@ use Rattle.typed_tree.specs.declared.expression.VarRef.{VarRef}
 use Rattle.typed_tree.specs.declared.statement.ApplyEnds.{ApplyEnds}
 use Rattle.typed_tree.specs.IntExpressionTree.{IntExpressionTree}
 use Rattle.typed_tree.specs.BoolExpressionTree.{BoolExpressionTree, Literal}
-use Rattle.typed_tree.specs.BlockTree.{StatementKindTree, DeclareSet, AssignSet, AddVertex, ApplyVertex}
+use Rattle.typed_tree.specs.BlockTree.{SimpleStatementTree, DeclareSet, AssignSet, AddVertex, ApplyVertex}
 use Rattle.algorithm_meaning.specs.declared.state.Depth.{Depth}
 use Rattle.plans.specs.Instruction.{EdgePartTree, OperationTree, Do, ApplyEdgesTogether, ApplyVerticesTogether, Unless, Enter, UnlessBelow, Advance, Turn, Jump, End, InstructionTree}
 use Rattle.algorithm_meaning.specs.declared.state.LoopCounter.{LoopCounter}
@@ -38,7 +38,7 @@ record SameBound (o t : OperationTree) : Type 0 where
 itself_alike : (o : OperationTree) → SameBound o o
 itself_alike o = record { turn = refl; rank = λ count index b. refl }
 
-do_alike : (action : StatementKindTree) → SameBound End (Do action)
+do_alike : (action : SimpleStatementTree) → SameBound End (Do action)
 do_alike action = record { turn = refl; rank = λ count index b. by_test count index b }
   where
     by_test : (count index : ℕ) (b : Bool) → rank_by count index End b ≡ rank_by count index (Do action) b

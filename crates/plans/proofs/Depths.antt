@@ -2,8 +2,7 @@
 use Rattle.std.proofs.Common.{◌≡◌, ℕ, zero, suc, ◌≤◌, List, [], ◌∷◌, take, ap, sym, ◌∙◌, refl, arith}
 use Rattle.std.proofs.Math.Seq.{take-length}
 use Rattle.std.proofs.lemmas.List.{length-take-le}
-use Rattle.typed_tree.specs.BlockTree.{StatementKindTree, DeclareInt, DeclareBool, SetInt, SetBool, ReduceInt, SetEntry, ReduceEntry, DeclareSet, AssignSet, AddVertex}
-use Rattle.typed_tree.specs.BlockTree.{PrintInt, PrintBool, ApplyVertex, ApplyEdges, If, IfElse, While, For, BlockTree, Empty, Then}
+use Rattle.typed_tree.specs.BlockTree.{StatementKindTree, Simple, DeclareInt, DeclareBool, DeclareSet, BlockTree, Empty, Then}
 use Rattle.algorithm_meaning.specs.State.{StateValue}
 use Rattle.algorithm_meaning.specs.declared.state.Depth.{Depth}
 use Rattle.plans.specs.inside.Plan.{IsWithin}
@@ -24,24 +23,10 @@ pub within_loop : (d : Depth) → IsWithin d (depth_in_loop d)
 within_loop d = record { integers = omega arith; conditions = omega arith; sets = omega arith }
 
 pub within_after : (a : StatementKindTree) (d : Depth) → IsWithin d (depth_after a d)
-within_after (DeclareInt name e) d = record { integers = omega arith; conditions = omega arith; sets = omega arith }
-within_after (DeclareBool name c) d = record { integers = omega arith; conditions = omega arith; sets = omega arith }
-within_after (DeclareSet name set) d = record { integers = omega arith; conditions = omega arith; sets = omega arith }
-within_after (SetInt slot e) d = within_itself d
-within_after (SetBool slot c) d = within_itself d
-within_after (ReduceInt slot reduction e) d = within_itself d
-within_after (SetEntry vector index e) d = within_itself d
-within_after (ReduceEntry vector index reduction e) d = within_itself d
-within_after (AssignSet slot set) d = within_itself d
-within_after (AddVertex slot e) d = within_itself d
-within_after (PrintInt e) d = within_itself d
-within_after (PrintBool c) d = within_itself d
-within_after (ApplyVertex set function) d = within_itself d
-within_after (ApplyEdges ends function) d = within_itself d
-within_after (If c body) d = within_itself d
-within_after (IfElse c body other) d = within_itself d
-within_after (While c body) d = within_itself d
-within_after (For name first end body) d = within_itself d
+within_after (Simple (DeclareInt name e)) d = record { integers = omega arith; conditions = omega arith; sets = omega arith }
+within_after (Simple (DeclareBool name c)) d = record { integers = omega arith; conditions = omega arith; sets = omega arith }
+within_after (Simple (DeclareSet name set)) d = record { integers = omega arith; conditions = omega arith; sets = omega arith }
+within_after _ d = within_itself d
 
 pub within_after_all : (b : BlockTree) (d : Depth) → IsWithin d (depth_after_all b d)
 within_after_all Empty d = within_itself d

@@ -1,11 +1,11 @@
 -- Each step leaves fewer.
 use Rattle.std.proofs.Common.{◌≡◌, ℕ, zero, suc, ◌+◌, ◌*◌, ◌<◌, ℤ, Bool, true, false, if◌then◌else◌, int_lt, List, [], ◌∷◌, length, Option, Some, None, slice_get, ap, sym, ◌∙◌, refl, arith, subst}
-use Rattle.typed_tree.specs.BlockTree.{StatementKindTree, DeclareInt, DeclareBool, SetInt, SetBool, ReduceInt, SetEntry, ReduceEntry, DeclareSet, AssignSet, AddVertex}
-use Rattle.typed_tree.specs.BlockTree.{PrintInt, PrintBool, ApplyVertex, ApplyEdges, If, IfElse, While, For}
+use Rattle.typed_tree.specs.BlockTree.{SimpleStatementTree, DeclareInt, DeclareBool, SetInt, SetBool, ReduceInt, SetEntry, ReduceEntry, DeclareSet, AssignSet, AddVertex}
+use Rattle.typed_tree.specs.BlockTree.{PrintInt, PrintBool, ApplyVertex, ApplyEdges}
 use Rattle.typed_tree.specs.ProgramTree.{ProgramTree}
 use Rattle.algorithm_meaning.specs.State.{GraphValue, StateValue}
 use Rattle.algorithm_meaning.specs.Stand.{Stand, Live, Over, with_value, int_value_in, bool_value_in, vertex_in}
-use Rattle.algorithm_meaning.specs.Meaning.{after}
+use Rattle.algorithm_meaning.specs.Meaning.{after_simple}
 use Rattle.algorithm_meaning.specs.declared.state.LoopCounter.{LoopCounter}
 use Rattle.algorithm_meaning.specs.declared.state.Depth.{Depth}
 use Rattle.plans.specs.Instruction.{ResultTree, Dropped, Declared, Assigned, EdgePartTree, OperationTree, Do, ApplyEdgesTogether, ApplyVerticesTogether, Unless, Enter, UnlessBelow, Advance, Turn}
@@ -14,7 +14,6 @@ use Rattle.algorithm_meaning.specs.Loop.{forget_beyond}
 use Rattle.plans.specs.Machine.{Configuration, At, Ended, with_result, with_results, after_parts, go_on, after_unless, after_enter, after_unless_below, after_advance, after_turn, act, act_at, step}
 use Rattle.plans.specs.RunLaws.{GoesOn}
 use Rattle.plans.specs.Bound.{rank, most_steps}
-use Rattle.plans.proofs.Proper.{HasNoBlock}
 use Rattle.plans.proofs.Targets.{AllLeadWell}
 use Rattle.plans.proofs.Ranks.{LeadsLower, low, leads_lower}
 
@@ -29,27 +28,23 @@ by_value (Some x) number n s go h = h x
 
 module _ (p : ProgramTree) (g : GraphValue) where
   -- a statement without a block uses no turn
-  turns_stay : (a : StatementKindTree) → HasNoBlock a → (number : ℕ) (s : StateValue) → HasTurns s.turns (after p g number a s)
-  turns_stay (DeclareInt name e) alone number s = by_value (int_value_in g.vertices e s) number s.turns s _ (λ n. refl)
-  turns_stay (DeclareBool name c) alone number s = by_value (bool_value_in g.vertices c s) number s.turns s _ (λ b. refl)
-  turns_stay (SetInt slot e) alone number s = by_value (int_value_in g.vertices e s) number s.turns s _ (λ n. refl)
-  turns_stay (SetBool slot c) alone number s = by_value (bool_value_in g.vertices c s) number s.turns s _ (λ b. refl)
-  turns_stay (ReduceInt slot reduction e) alone number s = by_value (int_value_in g.vertices e s) number s.turns s _ (λ n. refl)
-  turns_stay (SetEntry vector index e) alone number s =
+  turns_stay : (a : SimpleStatementTree) (number : ℕ) (s : StateValue) → HasTurns s.turns (after_simple p g number a s)
+  turns_stay (DeclareInt name e) number s = by_value (int_value_in g.vertices e s) number s.turns s _ (λ n. refl)
+  turns_stay (DeclareBool name c) number s = by_value (bool_value_in g.vertices c s) number s.turns s _ (λ b. refl)
+  turns_stay (SetInt slot e) number s = by_value (int_value_in g.vertices e s) number s.turns s _ (λ n. refl)
+  turns_stay (SetBool slot c) number s = by_value (bool_value_in g.vertices c s) number s.turns s _ (λ b. refl)
+  turns_stay (ReduceInt slot reduction e) number s = by_value (int_value_in g.vertices e s) number s.turns s _ (λ n. refl)
+  turns_stay (SetEntry vector index e) number s =
       by_value (vertex_in g.vertices index s) number s.turns s _ (λ v. by_value (int_value_in g.vertices e s) number s.turns s _ (λ n. refl))
-  turns_stay (ReduceEntry vector index reduction e) alone number s =
+  turns_stay (ReduceEntry vector index reduction e) number s =
       by_value (vertex_in g.vertices index s) number s.turns s _ (λ v. by_value (int_value_in g.vertices e s) number s.turns s _ (λ n. refl))
-  turns_stay (DeclareSet name set) alone number s = refl
-  turns_stay (AssignSet slot set) alone number s = refl
-  turns_stay (AddVertex slot e) alone number s = by_value (vertex_in g.vertices e s) number s.turns s _ (λ v. refl)
-  turns_stay (PrintInt e) alone number s = by_value (int_value_in g.vertices e s) number s.turns s _ (λ n. refl)
-  turns_stay (PrintBool c) alone number s = by_value (bool_value_in g.vertices c s) number s.turns s _ (λ b. refl)
-  turns_stay (ApplyVertex set function) alone number s = refl
-  turns_stay (ApplyEdges ends function) alone number s = refl
-  turns_stay (If c body) alone number s = absurd alone
-  turns_stay (IfElse c body other) alone number s = absurd alone
-  turns_stay (While c body) alone number s = absurd alone
-  turns_stay (For name first end body) alone number s = absurd alone
+  turns_stay (DeclareSet name set) number s = refl
+  turns_stay (AssignSet slot set) number s = refl
+  turns_stay (AddVertex slot e) number s = by_value (vertex_in g.vertices e s) number s.turns s _ (λ v. refl)
+  turns_stay (PrintInt e) number s = by_value (int_value_in g.vertices e s) number s.turns s _ (λ n. refl)
+  turns_stay (PrintBool c) number s = by_value (bool_value_in g.vertices c s) number s.turns s _ (λ b. refl)
+  turns_stay (ApplyVertex set function) number s = refl
+  turns_stay (ApplyEdges ends function) number s = refl
 
 turns_of_result : (n : ℕ) (xs ys : List (List ℤ)) (r : ResultTree) (s : StateValue) → (with_result n xs ys r s).turns ≡ s.turns
 turns_of_result n xs ys Dropped s = refl
@@ -109,7 +104,7 @@ module _ (p : ProgramTree) (g : GraphValue) (code : List InstructionTree) (well 
 
   act_falls : (operation : OperationTree) (number index : ℕ) (shown : Depth) (loops : List LoopCounter) (s : StateValue) → LeadsLower code index operation
       → most_steps code (act p g operation number shown index loops s) < s.turns * many + rank code index + 1
-  act_falls (Do action) number index shown loops s h = after_stand (after p g number action s) (index + 1) loops shown s.turns (rank code index) (turns_stay p g action h.0 number s) h.1
+  act_falls (Do action) number index shown loops s h = after_stand (after_simple p g number action s) (index + 1) loops shown s.turns (rank code index) (turns_stay p g action number s) h
   act_falls (ApplyEdgesTogether ends a b) number index shown loops s h =
       lower (rank code (index + 1)) (rank code index) (after_parts p g ends (a ∷ b ∷ []) s).turns s.turns (turns_of_results g.vertices _ _ (a ∷ b ∷ []) _) h
   act_falls (ApplyVerticesTogether set a b) number index shown loops s h = lower (rank code (index + 1)) (rank code index) s.turns s.turns refl h

@@ -1,7 +1,6 @@
 -- Two applies that a plan does together fit.
 use Rattle.std.proofs.Common.{◌≡◌, ℕ, ◌+◌, nat_eq, ◌&&◌, Bool, true, false, if◌then◌else◌, List, [], ◌∷◌, Option, Some, None, slice_get, refl, arith}
-use Rattle.typed_tree.specs.BlockTree.{StatementKindTree, DeclareInt, DeclareBool, SetInt, SetBool, ReduceInt, SetEntry, ReduceEntry, DeclareSet, AssignSet, AddVertex}
-use Rattle.typed_tree.specs.BlockTree.{PrintInt, PrintBool, ApplyVertex, ApplyEdges, If, IfElse, While, For, BlockTree, Empty, Then}
+use Rattle.typed_tree.specs.BlockTree.{StatementKindTree, Simple, If, IfElse, While, For, BlockTree, Empty, Then}
 use Rattle.typed_tree.specs.ProgramTree.{ProgramTree}
 use Rattle.algorithm_meaning.specs.Function.{steps_of}
 use Rattle.apply_options.specs.ScheduleTree.{ScheduleTree, apply_schedule_at}
@@ -84,20 +83,7 @@ module _ (p : ProgramTree) (s : ScheduleTree) where
   mutual
     -- what a statement, and what a block does together fits
     action_fits : (a : StatementKindTree) (index number : ℕ) (label : Option ℕ) (d : Depth) → AllOf Fits (plan p s index d number label a)
-    action_fits (DeclareInt name e) index number label d = (tt, tt)
-    action_fits (DeclareBool name c) index number label d = (tt, tt)
-    action_fits (SetInt slot e) index number label d = (tt, tt)
-    action_fits (SetBool slot c) index number label d = (tt, tt)
-    action_fits (ReduceInt slot reduction e) index number label d = (tt, tt)
-    action_fits (SetEntry vector subscript e) index number label d = (tt, tt)
-    action_fits (ReduceEntry vector subscript reduction e) index number label d = (tt, tt)
-    action_fits (DeclareSet name set) index number label d = (tt, tt)
-    action_fits (AssignSet slot set) index number label d = (tt, tt)
-    action_fits (AddVertex slot e) index number label d = (tt, tt)
-    action_fits (PrintInt e) index number label d = (tt, tt)
-    action_fits (PrintBool c) index number label d = (tt, tt)
-    action_fits (ApplyVertex set function) index number label d = (tt, tt)
-    action_fits (ApplyEdges ends function) index number label d = (tt, tt)
+    action_fits (Simple a) index number label d = (tt, tt)
     action_fits (If c body) index number label d = (tt, block_fits body false (index + 1) d)
     action_fits (IfElse c body others) index number label d =
         let to = index + 1 + size_all p s d false body + 1 in (

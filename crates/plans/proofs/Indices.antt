@@ -2,8 +2,7 @@
 use Rattle.std.proofs.Common.{◌≡◌, ℕ, ◌+◌, ◌<◌, Bool, false, List, [], ◌∷◌, ◌++◌, length, Option, Some, slice_get, ap, ◌∙◌, refl, arith, subst, append_assoc, length-append}
 use Rattle.std.proofs.Math.Seq.{get_or-append_seam}
 use Rattle.std.proofs.lemmas.Option.{slice_get-get_or}
-use Rattle.typed_tree.specs.BlockTree.{StatementKindTree, DeclareInt, DeclareBool, SetInt, SetBool, ReduceInt, SetEntry, ReduceEntry, DeclareSet, AssignSet, AddVertex}
-use Rattle.typed_tree.specs.BlockTree.{PrintInt, PrintBool, ApplyVertex, ApplyEdges, If, IfElse, While, For, BlockTree, Empty, Then}
+use Rattle.typed_tree.specs.BlockTree.{StatementKindTree, Simple, If, IfElse, While, For, BlockTree, Empty, Then}
 use Rattle.typed_tree.specs.ProgramTree.{ProgramTree}
 use Rattle.apply_options.specs.ScheduleTree.{ScheduleTree}
 use Rattle.algorithm_meaning.specs.declared.state.Depth.{Depth}
@@ -67,20 +66,7 @@ module _ (p : ProgramTree) (s : ScheduleTree) where
           length-plan_all body (index + 4) (depth_in_loop d) false,
           length-append (plan_all p s (index + 4) (depth_in_loop d) false body) (plain number d (Advance name) ∷ loop_step number (depth_in_loop d) d (Jump (index + 2)) ∷ []),
         )
-    length-plan (DeclareInt name e) index d number label = refl
-    length-plan (DeclareBool name c) index d number label = refl
-    length-plan (SetInt slot e) index d number label = refl
-    length-plan (SetBool slot c) index d number label = refl
-    length-plan (ReduceInt slot reduction e) index d number label = refl
-    length-plan (SetEntry vector subscript e) index d number label = refl
-    length-plan (ReduceEntry vector subscript reduction e) index d number label = refl
-    length-plan (DeclareSet name set) index d number label = refl
-    length-plan (AssignSet slot set) index d number label = refl
-    length-plan (AddVertex slot e) index d number label = refl
-    length-plan (PrintInt e) index d number label = refl
-    length-plan (PrintBool c) index d number label = refl
-    length-plan (ApplyVertex set function) index d number label = refl
-    length-plan (ApplyEdges ends function) index d number label = refl
+    length-plan (Simple a) index d number label = refl
 
     pub length-plan_all : (b : BlockTree) (index : ℕ) (d : Depth) (is_done : Bool) → length (plan_all p s index d is_done b) ≡ size_all p s d is_done b
     length-plan_all Empty index d is_done = refl

@@ -1,6 +1,6 @@
 -- What a pair of statements that one instruction does owes.
-use Rattle.std.proofs.Common.{◌≡◌, ℕ, ◌+◌, List, subst}
-use Rattle.typed_tree.specs.BlockTree.{StatementKindTree, BlockTree, Empty, Then}
+use Rattle.std.proofs.Common.{◌≡◌, ℕ, ◌+◌, List, subst, sym}
+use Rattle.typed_tree.specs.BlockTree.{SimpleStatementTree, StatementKindTree, Simple, BlockTree, Empty, Then}
 use Rattle.typed_tree.specs.ProgramTree.{ProgramTree}
 use Rattle.algorithm_meaning.specs.State.{GraphValue, StateValue}
 use Rattle.algorithm_meaning.specs.Stand.{Live}
@@ -11,12 +11,13 @@ use Rattle.plans.specs.Instruction.{OperationTree}
 use Rattle.plans.specs.Fusing.{FusionRole, Alone, WithNext, WithPrevious}
 use Rattle.plans.specs.Plan.{depth_after}
 use Rattle.plans.specs.Machine.{At, act}
-use Rattle.plans.proofs.Proper.{IsProper, HasNoBlock, Leaves, alone-leaves}
+use Rattle.plans.proofs.Proper.{IsProper, Leaves, simple-leaves}
 
 module _ (p : ProgramTree) (g : GraphValue) where
   -- a statement without a block that always goes on, in this state
   pub record IsFaultless (a : StatementKindTree) (f : StateValue → StateValue) : Type 0 where
-    pub alone : HasNoBlock a
+    pub statement : SimpleStatementTree
+    pub simple : a ≡ Simple statement
     pub means : (number : ℕ) (s : StateValue) → after p g number a s ≡ Live (f s)
 
   -- an operation does two statements
@@ -37,4 +38,5 @@ module _ (p : ProgramTree) (g : GraphValue) where
 
   pub faultless-proper : (a : StatementKindTree) (f : StateValue → StateValue) (d : Depth) (turns : ℕ) (s : StateValue) → IsFaultless a f → IsProper d turns s → IsProper (depth_after a d) turns (f s)
   faultless-proper a f d turns s faultless q =
-      subst (Leaves d (depth_after a d) turns) (faultless.means 0 s) (alone-leaves p g 0 d turns s q a faultless.alone)
+      subst (Leaves d (depth_after a d) turns) (faultless.means 0 s)
+      (subst (λ (a : StatementKindTree). Leaves d (depth_after a d) turns (after p g 0 a s)) (sym faultless.simple) (simple-leaves p g 0 d turns s q faultless.statement))

@@ -1,7 +1,6 @@
 -- From which statements the instructions of a plan come.
 use Rattle.std.proofs.Common.{◌≡◌, ℕ, zero, suc, ◌+◌, Bool, true, false, if◌then◌else◌, inl, inr, List, [], ◌∷◌, ◌++◌, Option, Some, None, slice_get, sym, ◌∙◌, refl, subst}
-use Rattle.typed_tree.specs.BlockTree.{StatementKindTree, DeclareInt, DeclareBool, SetInt, SetBool, ReduceInt, SetEntry, ReduceEntry, DeclareSet, AssignSet, AddVertex}
-use Rattle.typed_tree.specs.BlockTree.{PrintInt, PrintBool, ApplyVertex, ApplyEdges, If, IfElse, While, For, BlockTree, Empty, Then}
+use Rattle.typed_tree.specs.BlockTree.{StatementKindTree, Simple, If, IfElse, While, For, BlockTree, Empty, Then}
 use Rattle.typed_tree.specs.ProgramTree.{ProgramTree}
 use Rattle.apply_options.specs.ScheduleTree.{ScheduleTree, apply_schedule_at}
 use Rattle.algorithm_meaning.specs.declared.state.Depth.{Depth}
@@ -92,20 +91,7 @@ module _ (p : ProgramTree) (schedule : ScheduleTree) (P : InstructionTree → Ty
     action_comes : (a : StatementKindTree) (index number : ℕ) (label : Option ℕ) (d : Depth) → HoldsFor number label a
         → ((n : ℕ) (l : Option ℕ) (c : StatementKindTree) → StandsInside a n l c → HoldsFor n l c)
         → AllOf P (plan p schedule index d number label a)
-    action_comes (DeclareInt name e) index number label d own inner = (own _ refl (λ x e. (e, refl)), tt)
-    action_comes (DeclareBool name c) index number label d own inner = (own _ refl (λ x e. (e, refl)), tt)
-    action_comes (SetInt slot e) index number label d own inner = (own _ refl (λ x e. (e, refl)), tt)
-    action_comes (SetBool slot c) index number label d own inner = (own _ refl (λ x e. (e, refl)), tt)
-    action_comes (ReduceInt slot reduction e) index number label d own inner = (own _ refl (λ x e. (e, refl)), tt)
-    action_comes (SetEntry vector subscript e) index number label d own inner = (own _ refl (λ x e. (e, refl)), tt)
-    action_comes (ReduceEntry vector subscript reduction e) index number label d own inner = (own _ refl (λ x e. (e, refl)), tt)
-    action_comes (DeclareSet name set) index number label d own inner = (own _ refl (λ x e. (e, refl)), tt)
-    action_comes (AssignSet slot set) index number label d own inner = (own _ refl (λ x e. (e, refl)), tt)
-    action_comes (AddVertex slot e) index number label d own inner = (own _ refl (λ x e. (e, refl)), tt)
-    action_comes (PrintInt e) index number label d own inner = (own _ refl (λ x e. (e, refl)), tt)
-    action_comes (PrintBool c) index number label d own inner = (own _ refl (λ x e. (e, refl)), tt)
-    action_comes (ApplyVertex set function) index number label d own inner = (own _ refl (λ x e. (e, refl)), tt)
-    action_comes (ApplyEdges ends function) index number label d own inner = (own _ refl (λ x e. (e, refl)), tt)
+    action_comes (Simple a) index number label d own inner = (own _ refl (λ x e. (e, refl)), tt)
     action_comes (If c body) index number label d own inner =
         (other number label (If c body) _ own refl refl, block_comes body false (index + 1) d inner)
     action_comes (IfElse c body others) index number label d own inner =

@@ -2,7 +2,7 @@
 use Rattle.std.proofs.Common.{◌≡◌, ℕ, ◌+◌, nat_eq, ◌&&◌, Bool, true, false, if◌then◌else◌, Option, Some, None, slice_get, ap, ◌∙◌, refl}
 use Rattle.std.proofs.lemmas.Bool.{eqb-true, and_parts}
 use Rattle.typed_tree.specs.declared.statement.SetValue.TheVariants as set
-use Rattle.typed_tree.specs.BlockTree.{StatementKindTree, DeclareSet, AssignSet, ApplyVertex, ApplyEdges, BlockTree, Empty, Then}
+use Rattle.typed_tree.specs.BlockTree.{StatementKindTree, Simple, DeclareSet, AssignSet, ApplyVertex, ApplyEdges, BlockTree, Empty, Then}
 use Rattle.typed_tree.specs.FunctionStatementTree.{FunctionTree}
 use Rattle.typed_tree.specs.ProgramTree.{ProgramTree}
 use Rattle.algorithm_meaning.specs.State.{GraphValue, StateValue}
@@ -33,9 +33,9 @@ module _ (p : ProgramTree) (g : GraphValue) where
   IsEdgeApply a (Some x) = IsFaultless p g a (after_part p g x)
 
   is_edge_apply : (a : StatementKindTree) → IsEdgeApply a (edge_apply_of a)
-  is_edge_apply (ApplyEdges ends function) = record { alone = tt; means = λ number s. refl }
-  is_edge_apply (DeclareSet name (set.Modified ends function vector)) = record { alone = tt; means = λ number s. refl }
-  is_edge_apply (AssignSet slot (set.Modified ends function vector)) = record { alone = tt; means = λ number s. refl }
+  is_edge_apply (Simple (ApplyEdges ends function)) = record { statement = ApplyEdges ends function; simple = refl; means = λ number s. refl }
+  is_edge_apply (Simple (DeclareSet name (set.Modified ends function vector))) = record { statement = DeclareSet name (set.Modified ends function vector); simple = refl; means = λ number s. refl }
+  is_edge_apply (Simple (AssignSet slot (set.Modified ends function vector))) = record { statement = AssignSet slot (set.Modified ends function vector); simple = refl; means = λ number s. refl }
   is_edge_apply a = tt
 
   abbrev after_vertex_apply : VertexApplyTree → StateValue → StateValue
@@ -46,7 +46,7 @@ module _ (p : ProgramTree) (g : GraphValue) where
   IsVertexApply a (Some x) = IsFaultless p g a (after_vertex_apply x)
 
   is_vertex_apply : (a : StatementKindTree) → IsVertexApply a (vertex_apply_of a)
-  is_vertex_apply (ApplyVertex set function) = record { alone = tt; means = λ number s. refl }
+  is_vertex_apply (Simple (ApplyVertex set function)) = record { statement = ApplyVertex set function; simple = refl; means = λ number s. refl }
   is_vertex_apply a = tt
 
   vertices_at_once : (x y : VertexApplyTree) (d : Depth) (turns : ℕ) (s : StateValue) → vertices_fit p x y ≡ true → IsProper d turns s

@@ -3,8 +3,8 @@ use Rattle.std.proofs.Common.{◌≡◌, ℕ, zero, suc, ◌+◌, ◌≤◌, ℤ
 use Rattle.std.proofs.lemmas.List.{length-append, length-set}
 use Rattle.typed_tree.specs.declared.statement.SetValue.{SetValue}
 use Rattle.typed_tree.specs.declared.statement.SetValue.TheVariants as set
-use Rattle.typed_tree.specs.BlockTree.{StatementKindTree, DeclareInt, DeclareBool, SetInt, SetBool, ReduceInt, SetEntry, ReduceEntry, DeclareSet, AssignSet, AddVertex}
-use Rattle.typed_tree.specs.BlockTree.{PrintInt, PrintBool, ApplyVertex, ApplyEdges, If, IfElse, While, For}
+use Rattle.typed_tree.specs.BlockTree.{SimpleStatementTree, DeclareInt, DeclareBool, SetInt, SetBool, ReduceInt, SetEntry, ReduceEntry, DeclareSet, AssignSet, AddVertex}
+use Rattle.typed_tree.specs.BlockTree.{PrintInt, PrintBool, ApplyVertex, ApplyEdges, Simple}
 use Rattle.typed_tree.specs.ProgramTree.{ProgramTree}
 use Rattle.algorithm_meaning.specs.State.{GraphValue, StateValue}
 use Rattle.algorithm_meaning.specs.Value.{members_of}
@@ -14,7 +14,7 @@ use Rattle.algorithm_meaning.specs.EdgeApply.{is_modified, after_edge_apply}
 use Rattle.algorithm_meaning.specs.VertexSets.{members_for, set_members, inserted, vectors_after, with_new_set, with_members}
 use Rattle.algorithm_meaning.specs.Statements.{with_vectors}
 use Rattle.algorithm_meaning.specs.Arithmetic.{reduced}
-use Rattle.algorithm_meaning.specs.Meaning.{after}
+use Rattle.algorithm_meaning.specs.Meaning.{after_simple}
 use Rattle.algorithm_meaning.specs.declared.state.Depth.{Depth}
 use Rattle.plans.specs.inside.Plan.{IsWithin}
 use Rattle.plans.specs.Plan.{depth_after, depth_with_set}
@@ -74,14 +74,6 @@ members-ascend p g (set.Filter slot function) s h =
 members-ascend p g (set.Modified ends function vector) s h =
     ascends_filter (is_modified vector s.vectors (after_edge_apply p.filters p.edge_functions g ends (function ∷ []) s)) 0 _ (ascends_range 0 g.vertices)
 
--- a statement without a block
-abbrev pub HasNoBlock : StatementKindTree → Type 0
-HasNoBlock (If c body) = ⊥
-HasNoBlock (IfElse c body other) = ⊥
-HasNoBlock (While c body) = ⊥
-HasNoBlock (For name first end body) = ⊥
-HasNoBlock a = Unit {0}
-
 -- where a statement leaves a run: it goes on at the second depth, or it has ended at the first
 abbrev pub Leaves : (d e : Depth) → (turns : ℕ) → Stand → Type 0
 Leaves d e turns (Live t) = IsProper e turns t
@@ -130,61 +122,57 @@ module _ (p : ProgramTree) (g : GraphValue) (number : ℕ) (d : Depth) (turns : 
   sets_here : length s.sets ≡ d.sets
   sets_here = ap (λ (d : Depth). d.sets) proper.deep
 
-  pub alone-leaves : (a : StatementKindTree) → HasNoBlock a → Leaves d (depth_after a d) turns (after p g number a s)
-  alone-leaves (DeclareInt name e) alone =
-      by_value (int_value_in g.vertices e s) d (depth_after (DeclareInt name e) d) turns number s _ proper.deep (λ n. record {
+  pub simple-leaves : (a : SimpleStatementTree) → Leaves d (depth_after (Simple a) d) turns (after_simple p g number a s)
+  simple-leaves (DeclareInt name e) =
+      by_value (int_value_in g.vertices e s) d (depth_after (Simple (DeclareInt name e)) d) turns number s _ proper.deep (λ n. record {
         deep = λ i. record { integers = one_more s.scope.integers n d.integers integers_here i; conditions = conditions_here i; sets = sets_here i };
         sets = proper.sets;
         fewer = proper.fewer;
       })
-  alone-leaves (DeclareBool name c) alone =
-      by_value (bool_value_in g.vertices c s) d (depth_after (DeclareBool name c) d) turns number s _ proper.deep (λ b. record {
+  simple-leaves (DeclareBool name c) =
+      by_value (bool_value_in g.vertices c s) d (depth_after (Simple (DeclareBool name c)) d) turns number s _ proper.deep (λ b. record {
         deep = λ i. record { integers = integers_here i; conditions = one_more s.scope.conditions b d.conditions conditions_here i; sets = sets_here i };
         sets = proper.sets;
         fewer = proper.fewer;
       })
-  alone-leaves (SetInt slot e) alone =
+  simple-leaves (SetInt slot e) =
       by_value (int_value_in g.vertices e s) d d turns number s _ proper.deep (λ n. record {
         deep = λ i. record { integers = (length-set s.scope.integers slot.index n ∙ integers_here) i; conditions = conditions_here i; sets = sets_here i };
         sets = proper.sets;
         fewer = proper.fewer;
       })
-  alone-leaves (SetBool slot c) alone =
+  simple-leaves (SetBool slot c) =
       by_value (bool_value_in g.vertices c s) d d turns number s _ proper.deep (λ b. record {
         deep = λ i. record { integers = integers_here i; conditions = (length-set s.scope.conditions slot.index b ∙ conditions_here) i; sets = sets_here i };
         sets = proper.sets;
         fewer = proper.fewer;
       })
-  alone-leaves (ReduceInt slot reduction e) alone =
+  simple-leaves (ReduceInt slot reduction e) =
       by_value (int_value_in g.vertices e s) d d turns number s _ proper.deep (λ n.
       let x : ℤ = reduced reduction (slice_index_or s.scope.integers slot.index (pos 0)) n in record {
         deep = λ i. record { integers = (length-set s.scope.integers slot.index x ∙ integers_here) i; conditions = conditions_here i; sets = sets_here i };
         sets = proper.sets;
         fewer = proper.fewer;
       })
-  alone-leaves (SetEntry vector subscript e) alone =
+  simple-leaves (SetEntry vector subscript e) =
       by_value (vertex_in g.vertices subscript s) d d turns number s _ proper.deep (λ v.
       by_value (int_value_in g.vertices e s) d d turns number s _ proper.deep (λ n.
       record { deep = proper.deep; sets = proper.sets; fewer = proper.fewer }))
-  alone-leaves (ReduceEntry vector subscript reduction e) alone =
+  simple-leaves (ReduceEntry vector subscript reduction e) =
       by_value (vertex_in g.vertices subscript s) d d turns number s _ proper.deep (λ v.
       by_value (int_value_in g.vertices e s) d d turns number s _ proper.deep (λ n.
       record { deep = proper.deep; sets = proper.sets; fewer = proper.fewer }))
-  alone-leaves (DeclareSet name set) alone = declared-proper d turns s proper name (members_for p g set s) (vectors_after p g set s) (members-ascend p g set s proper.sets)
-  alone-leaves (AssignSet slot set) alone = assigned-proper d turns s proper slot.index (members_for p g set s) (vectors_after p g set s) (members-ascend p g set s proper.sets)
-  alone-leaves (AddVertex slot e) alone =
+  simple-leaves (DeclareSet name set) = declared-proper d turns s proper name (members_for p g set s) (vectors_after p g set s) (members-ascend p g set s proper.sets)
+  simple-leaves (AssignSet slot set) = assigned-proper d turns s proper slot.index (members_for p g set s) (vectors_after p g set s) (members-ascend p g set s proper.sets)
+  simple-leaves (AddVertex slot e) =
       by_value (vertex_in g.vertices e s) d d turns number s _ proper.deep (λ v.
       assigned-proper d turns s proper slot.index (inserted v (members_of (slice_get s.sets slot.index))) s.vectors
       (ascends_inserted v 0 (members_of (slice_get s.sets slot.index)) (omega arith) (proper.sets slot.index)))
-  alone-leaves (PrintInt e) alone =
+  simple-leaves (PrintInt e) =
       by_value (int_value_in g.vertices e s) d d turns number s _ proper.deep (λ n.
       record { deep = proper.deep; sets = proper.sets; fewer = proper.fewer })
-  alone-leaves (PrintBool c) alone =
+  simple-leaves (PrintBool c) =
       by_value (bool_value_in g.vertices c s) d d turns number s _ proper.deep (λ b.
       record { deep = proper.deep; sets = proper.sets; fewer = proper.fewer })
-  alone-leaves (ApplyVertex set function) alone = record { deep = proper.deep; sets = proper.sets; fewer = proper.fewer }
-  alone-leaves (ApplyEdges ends function) alone = record { deep = proper.deep; sets = proper.sets; fewer = proper.fewer }
-  alone-leaves (If c body) alone = absurd alone
-  alone-leaves (IfElse c body other) alone = absurd alone
-  alone-leaves (While c body) alone = absurd alone
-  alone-leaves (For name first end body) alone = absurd alone
+  simple-leaves (ApplyVertex set function) = record { deep = proper.deep; sets = proper.sets; fewer = proper.fewer }
+  simple-leaves (ApplyEdges ends function) = record { deep = proper.deep; sets = proper.sets; fewer = proper.fewer }

@@ -2,13 +2,11 @@
 use Rattle.std.proofs.Common.{◌≡◌, ℕ, zero, suc, ◌+◌, ◌-◌, ◌*◌, ◌<◌, ◌≤◌, Bool, true, false, List, [], ◌∷◌, length, inl, inr, Option, Some, None, slice_get, ap, ◌∙◌, refl, arith, subst}
 use Rattle.plans.specs.Instruction.{OperationTree, Do, ApplyEdgesTogether, ApplyVerticesTogether, Unless, Enter, UnlessBelow, Advance, Turn, Jump, End, InstructionTree}
 use Rattle.plans.specs.Bound.{is_turn, rank_by, rank_where, rank}
-use Rattle.plans.proofs.Proper.{HasNoBlock}
 use Rattle.plans.proofs.Reaching.{is_inside}
 use Rattle.plans.proofs.Targets.{leaving_index, IsHead, LeadsWell, AllLeadWell}
 
 -- where an instruction leads to has a lower rank
 abbrev pub LeadsLower : List InstructionTree → (index : ℕ) → OperationTree → Type 0
-LeadsLower code index (Do action) = HasNoBlock action × (rank code (index + 1) < rank code index)
 LeadsLower code index (Unless c to) = (rank code (index + 1) < rank code index) × (rank code to < rank code index)
 LeadsLower code index (UnlessBelow name to) = (rank code (index + 1) < rank code index) × (rank code to < rank code index)
 LeadsLower code index (Jump to) = rank code to < rank code index
@@ -106,7 +104,7 @@ module _ (code : List InstructionTree) (well : AllLeadWell code 0 code) where
 
   lower_by : (index : ℕ) (i : InstructionTree) (operation : OperationTree) → i.operation ≡ operation → slice_get code index ≡ Some i → LeadsWell code index operation → index < length code
       → rank code index ≡ rank_by (length code) index operation (is_turn (slice_get code (index + 1))) → LeadsLower code index operation
-  lower_by index i (Do action) same at leads within e = (leads, next_lower index within e)
+  lower_by index i (Do action) same at leads within e = next_lower index within e
   lower_by index i (ApplyEdgesTogether ends x y) same at leads within e = next_lower index within e
   lower_by index i (ApplyVerticesTogether set x y) same at leads within e = next_lower index within e
   lower_by index i (Unless c to) same at leads within e =

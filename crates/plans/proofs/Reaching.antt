@@ -1,14 +1,14 @@
 -- The steps of the machine, one after the other.
 use Rattle.std.proofs.Common.{◌≡◌, ℕ, zero, suc, ◌+◌, ◌<◌, ◌≤◌, ℤ, Bool, true, false, List, [], ◌∷◌, length, Option, Some, None, slice_get, ap, sym, ◌∙◌, refl, arith, subst}
 use Rattle.std.proofs.lemmas.List.{take-append-le}
-use Rattle.typed_tree.specs.BlockTree.{StatementKindTree}
+use Rattle.typed_tree.specs.BlockTree.{SimpleStatementTree, Simple}
 use Rattle.typed_tree.specs.ProgramTree.{ProgramTree}
 use Rattle.algorithm_meaning.specs.declared.outcome.End.TheVariants.{TurnsOver, Fault}
 use Rattle.algorithm_meaning.specs.State.{GraphValue, StateValue}
 use Rattle.algorithm_meaning.specs.Stand.{Stand, Live, Over, then_do, with_value, choose}
 use Rattle.algorithm_meaning.specs.Statements.{with_new_integer}
 use Rattle.algorithm_meaning.specs.Loop.{depth_of, leave, take_turn, loop, forget_beyond}
-use Rattle.algorithm_meaning.specs.Meaning.{after}
+use Rattle.algorithm_meaning.specs.Meaning.{after_simple}
 use Rattle.apply_options.specs.declared.apply_schedule.ApplySchedule.{ApplySchedule}
 use Rattle.algorithm_meaning.specs.declared.state.LoopCounter.{LoopCounter}
 use Rattle.algorithm_meaning.specs.declared.state.Depth.{Depth}
@@ -18,7 +18,7 @@ use Rattle.plans.specs.Plan.{depth_after, loop_step}
 use Rattle.plans.specs.Machine.{Configuration, At, Ended, go_on, act, act_at, step}
 use Rattle.plans.specs.RunLaws.{GoesOn}
 use Rattle.plans.proofs.Depths.{forgotten-all, forgotten-less}
-use Rattle.plans.proofs.Proper.{IsProper, HasNoBlock, Leaves, alone-leaves, proper-forgotten}
+use Rattle.plans.proofs.Proper.{IsProper, Leaves, simple-leaves, proper-forgotten}
 
 pub proper_more : (d : Depth) (m n : ℕ) (s : StateValue) → m ≤ n → IsProper d m s → IsProper d n s
 proper_more d m n s h proper = record { deep = proper.deep; sets = proper.sets; fewer = omega (arith, h, proper.fewer) }
@@ -87,19 +87,19 @@ module _ (p : ProgramTree) (g : GraphValue) (code : List InstructionTree) where
         leads = ap (λ (o : Option InstructionTree). act_at p g o index loops m) h ∙ ap (λ (t : StateValue). act p g i.operation i.number i.shown index loops t) e;
       }
 
-  alone_stands : (st : Stand) (to : ℕ) (loops : List LoopCounter) (d e : Depth) (turns : ℕ) (c : Configuration) → Leaves d e turns st
+  simple_stands : (st : Stand) (to : ℕ) (loops : List LoopCounter) (d e : Depth) (turns : ℕ) (c : Configuration) → Leaves d e turns st
       → Moves c (go_on to loops d st) → Follows to loops e turns st c
-  alone_stands (Live t) to loops d e turns c leaves h =
+  simple_stands (Live t) to loops d e turns c leaves h =
       record { there = t; reaches = by_step c (At to loops t) (At to loops t) h here; same = forgotten-all e t leaves.deep; proper = leaves }
-  alone_stands (Over t end) to loops d e turns c leaves h =
+  simple_stands (Over t end) to loops d e turns c leaves h =
       by_step c (Ended t end) (Ended t end) (moves_on h (ap (λ (u : StateValue). Ended u end) (forgotten-all d t leaves))) here
 
   -- a statement without a block
-  pub alone_runs : (a : StatementKindTree) → HasNoBlock a → (index number : ℕ) (apply_schedule : ApplySchedule) (d : Depth) (turns : ℕ) (loops : List LoopCounter) (m s : StateValue)
+  pub simple_runs : (a : SimpleStatementTree) (index number : ℕ) (apply_schedule : ApplySchedule) (d : Depth) (turns : ℕ) (loops : List LoopCounter) (m s : StateValue)
       → slice_get code index ≡ Some (record { number = number; keep = d; shown = d; apply_schedule = apply_schedule; operation = Do a })
-      → forget_beyond d m ≡ s → IsProper d turns s → Follows (index + 1) loops (depth_after a d) turns (after p g number a s) (At index loops m)
-  alone_runs a alone index number apply_schedule d turns loops m s at same proper =
-      alone_stands (after p g number a s) (index + 1) loops d (depth_after a d) turns (At index loops m) (alone-leaves p g number d turns s proper a alone)
+      → forget_beyond d m ≡ s → IsProper d turns s → Follows (index + 1) loops (depth_after (Simple a) d) turns (after_simple p g number a s) (At index loops m)
+  simple_runs a index number apply_schedule d turns loops m s at same proper =
+      simple_stands (after_simple p g number a s) (index + 1) loops d (depth_after (Simple a) d) turns (At index loops m) (simple-leaves p g number d turns s proper a)
       (takes index loops m (record { number = number; keep = d; shown = d; apply_schedule = apply_schedule; operation = Do a }) s at same)
 
   -- a block is left

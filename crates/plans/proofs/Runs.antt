@@ -1,8 +1,7 @@
 -- Statements and blocks on the machine.
 use Rattle.std.proofs.Common.{◌≡◌, ℕ, ◌+◌, Bool, true, false, List, [], ◌∷◌, ◌++◌, Option, Some, None, slice_get, ap, sym, ◌∙◌, refl, arith, subst}
 use Rattle.typed_tree.specs.BoolExpressionTree.{BoolExpressionTree}
-use Rattle.typed_tree.specs.BlockTree.{StatementKindTree, DeclareInt, DeclareBool, SetInt, SetBool, ReduceInt, SetEntry, ReduceEntry, DeclareSet, AssignSet, AddVertex}
-use Rattle.typed_tree.specs.BlockTree.{PrintInt, PrintBool, ApplyVertex, ApplyEdges, If, IfElse, While, For, BlockTree, Empty, Then}
+use Rattle.typed_tree.specs.BlockTree.{StatementKindTree, Simple, If, IfElse, While, For, BlockTree, Empty, Then}
 use Rattle.typed_tree.specs.ProgramTree.{ProgramTree}
 use Rattle.algorithm_meaning.specs.State.{GraphValue, StateValue}
 use Rattle.algorithm_meaning.specs.Stand.{Stand, Live, Over, then_do, bool_value_in, with_value, choose}
@@ -11,14 +10,14 @@ use Rattle.algorithm_meaning.specs.Meaning.{after, after_all}
 use Rattle.apply_options.specs.ScheduleTree.{ScheduleTree, apply_schedule_at}
 use Rattle.algorithm_meaning.specs.declared.state.LoopCounter.{LoopCounter}
 use Rattle.algorithm_meaning.specs.declared.state.Depth.{Depth}
-use Rattle.plans.specs.Instruction.{OperationTree, Do, Unless, UnlessBelow, Turn, Jump, Advance, InstructionTree}
+use Rattle.plans.specs.Instruction.{OperationTree, Unless, UnlessBelow, Turn, Jump, Advance, InstructionTree}
 use Rattle.plans.specs.Fusing.{FusionRole, Alone, WithNext, WithPrevious, fusion_role_of, takes_next}
 use Rattle.plans.specs.Plan.{depth_after, depth_after_all, depth_in_loop, plain, loop_step, chosen, size_in, plan_in, size, size_all, plan, plan_all}
 use Rattle.plans.specs.Machine.{Configuration, At}
 use Rattle.plans.proofs.Depths.{within_loop, within_after_all, within_both, forgotten-all}
-use Rattle.plans.proofs.Proper.{IsProper, HasNoBlock}
+use Rattle.plans.proofs.Proper.{IsProper}
 use Rattle.plans.proofs.Indices.{HasAt, has_front, has_behind, length-plan, length-plan_all}
-use Rattle.plans.proofs.Reaching.{here, by_step, Moves, moves_on, Lands, Follows, follows_from, takes, alone_runs, leaving, jumps, lands_at}
+use Rattle.plans.proofs.Reaching.{here, by_step, Moves, moves_on, Lands, Follows, follows_from, takes, simple_runs, leaving, jumps, lands_at}
 use Rattle.plans.proofs.Whiles.{unless_faults, unless_chooses, while_runs}
 use Rattle.plans.proofs.Fors.{StandsFor, for_runs}
 use Rattle.plans.proofs.Joined.{IsFaultless, DoesBoth, IsGoodCompany, faultless-proper}
@@ -104,12 +103,6 @@ module _ (p : ProgramTree) (g : GraphValue) (schedule : ScheduleTree) (code : Li
       ap (λ (st : Stand). then_do st (after_all p g rest)) (sym (b_means.means other (first s)))
       ∙ ap (λ (st : Stand). then_do st (after_all p g (Then other label b rest))) (sym (a_means.means number s))
 
-  -- the instruction of a statement without a block
-  single : (a : StatementKindTree) → HasNoBlock a → (index number : ℕ) (label : Option ℕ) (d : Depth) (turns : ℕ) (loops : List LoopCounter) (m s : StateValue)
-      → HasAt code index (chosen schedule number label d (Do a) ∷ []) → forget_beyond d m ≡ s → IsProper d turns s
-      → Follows p g code (index + 1) loops (depth_after a d) turns (after p g number a s) (At index loops m)
-  single a alone index number label d turns loops m s at same q = alone_runs p g code a alone index number (apply_schedule_at label schedule) d turns loops m s at.0 same q
-
   -- the instructions of a block after others
   abbrev HasBlock : (index : ℕ) → Depth → (is_done : Bool) → BlockTree → List InstructionTree → Type 0
   HasBlock index d is_done b rest = HasAt code index (plan_all p schedule index d is_done b ++ rest)
@@ -170,21 +163,7 @@ module _ (p : ProgramTree) (g : GraphValue) (schedule : ScheduleTree) (code : Li
       pub action_runs : (a : StatementKindTree) (index number : ℕ) (label : Option ℕ) (d : Depth) (turns : ℕ) (loops : List LoopCounter) (m s : StateValue)
           → HasAt code index (plan p schedule index d number label a) → forget_beyond d m ≡ s → IsProper d turns s
           → Follows p g code (index + size p schedule d a) loops (depth_after a d) turns (after p g number a s) (At index loops m)
-      action_runs (DeclareInt name e) index number label d turns loops m s at same q = single (DeclareInt name e) tt index number label d turns loops m s at same q
-      action_runs (DeclareBool name c) index number label d turns loops m s at same q = single (DeclareBool name c) tt index number label d turns loops m s at same q
-      action_runs (SetInt slot e) index number label d turns loops m s at same q = single (SetInt slot e) tt index number label d turns loops m s at same q
-      action_runs (SetBool slot c) index number label d turns loops m s at same q = single (SetBool slot c) tt index number label d turns loops m s at same q
-      action_runs (ReduceInt slot reduction e) index number label d turns loops m s at same q = single (ReduceInt slot reduction e) tt index number label d turns loops m s at same q
-      action_runs (SetEntry vector subscript e) index number label d turns loops m s at same q = single (SetEntry vector subscript e) tt index number label d turns loops m s at same q
-      action_runs (ReduceEntry vector subscript reduction e) index number label d turns loops m s at same q =
-          single (ReduceEntry vector subscript reduction e) tt index number label d turns loops m s at same q
-      action_runs (DeclareSet name set) index number label d turns loops m s at same q = single (DeclareSet name set) tt index number label d turns loops m s at same q
-      action_runs (AssignSet slot set) index number label d turns loops m s at same q = single (AssignSet slot set) tt index number label d turns loops m s at same q
-      action_runs (AddVertex slot e) index number label d turns loops m s at same q = single (AddVertex slot e) tt index number label d turns loops m s at same q
-      action_runs (PrintInt e) index number label d turns loops m s at same q = single (PrintInt e) tt index number label d turns loops m s at same q
-      action_runs (PrintBool c) index number label d turns loops m s at same q = single (PrintBool c) tt index number label d turns loops m s at same q
-      action_runs (ApplyVertex set function) index number label d turns loops m s at same q = single (ApplyVertex set function) tt index number label d turns loops m s at same q
-      action_runs (ApplyEdges ends function) index number label d turns loops m s at same q = single (ApplyEdges ends function) tt index number label d turns loops m s at same q
+      action_runs (Simple a) index number label d turns loops m s at same q = simple_runs p g code a index number (apply_schedule_at label schedule) d turns loops m s at.0 same q
       action_runs (If c body) index number label d turns loops m s at same q =
           let to = index + 1 + size_all p schedule d false body in
           lands_at p g code (after p g number (If c body) s) to (index + size p schedule d (If c body)) loops d turns (At index loops m) (omega arith)

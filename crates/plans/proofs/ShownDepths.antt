@@ -1,7 +1,6 @@
 -- What an instruction shows it keeps.
 use Rattle.std.proofs.Common.{◌≡◌, ℕ, ◌+◌, false, List, [], ◌∷◌, Bool, Option, Some, slice_get, arith}
-use Rattle.typed_tree.specs.BlockTree.{StatementKindTree, DeclareInt, DeclareBool, SetInt, SetBool, ReduceInt, SetEntry, ReduceEntry, DeclareSet, AssignSet, AddVertex}
-use Rattle.typed_tree.specs.BlockTree.{PrintInt, PrintBool, ApplyVertex, ApplyEdges, If, IfElse, While, For, BlockTree, Empty, Then}
+use Rattle.typed_tree.specs.BlockTree.{StatementKindTree, Simple, If, IfElse, While, For, BlockTree, Empty, Then}
 use Rattle.typed_tree.specs.ProgramTree.{ProgramTree}
 use Rattle.apply_options.specs.ScheduleTree.{ScheduleTree}
 use Rattle.algorithm_meaning.specs.declared.state.Depth.{Depth}
@@ -28,20 +27,7 @@ in_company WithPrevious s number label d is own = tt
 module _ (p : ProgramTree) (s : ScheduleTree) where
   mutual
     action_shows : (a : StatementKindTree) (index number : ℕ) (label : Option ℕ) (d : Depth) → AllOf ShowsWithin (plan p s index d number label a)
-    action_shows (DeclareInt name e) index number label d = (within_itself d, tt)
-    action_shows (DeclareBool name c) index number label d = (within_itself d, tt)
-    action_shows (SetInt slot e) index number label d = (within_itself d, tt)
-    action_shows (SetBool slot c) index number label d = (within_itself d, tt)
-    action_shows (ReduceInt slot reduction e) index number label d = (within_itself d, tt)
-    action_shows (SetEntry vector subscript e) index number label d = (within_itself d, tt)
-    action_shows (ReduceEntry vector subscript reduction e) index number label d = (within_itself d, tt)
-    action_shows (DeclareSet name set) index number label d = (within_itself d, tt)
-    action_shows (AssignSet slot set) index number label d = (within_itself d, tt)
-    action_shows (AddVertex slot e) index number label d = (within_itself d, tt)
-    action_shows (PrintInt e) index number label d = (within_itself d, tt)
-    action_shows (PrintBool c) index number label d = (within_itself d, tt)
-    action_shows (ApplyVertex set function) index number label d = (within_itself d, tt)
-    action_shows (ApplyEdges ends function) index number label d = (within_itself d, tt)
+    action_shows (Simple a) index number label d = (within_itself d, tt)
     action_shows (If c body) index number label d = (within_itself d, block_shows body false (index + 1) d)
     action_shows (IfElse c body others) index number label d =
         let to = index + 1 + size_all p s d false body + 1 in (

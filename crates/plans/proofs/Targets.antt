@@ -1,16 +1,14 @@
 -- Where the instructions of a plan lead.
 use Rattle.std.proofs.Common.{◌≡◌, ℕ, ◌+◌, ◌<◌, Bool, true, false, List, [], ◌∷◌, ◌++◌, length, if◌then◌else◌, ◌⊎◌, inl, inr, Option, Some, None, slice_get, ap, sym, refl, arith, subst}
-use Rattle.typed_tree.specs.BlockTree.{StatementKindTree, DeclareInt, DeclareBool, SetInt, SetBool, ReduceInt, SetEntry, ReduceEntry, DeclareSet, AssignSet, AddVertex}
-use Rattle.typed_tree.specs.BlockTree.{PrintInt, PrintBool, ApplyVertex, ApplyEdges, If, IfElse, While, For, BlockTree, Empty, Then}
+use Rattle.typed_tree.specs.BlockTree.{StatementKindTree, Simple, If, IfElse, While, For, BlockTree, Empty, Then}
 use Rattle.typed_tree.specs.ProgramTree.{ProgramTree}
 use Rattle.apply_options.specs.ScheduleTree.{ScheduleTree, apply_schedule_at}
 use Rattle.algorithm_meaning.specs.declared.state.Depth.{Depth}
-use Rattle.plans.specs.Instruction.{OperationTree, Do, ApplyEdgesTogether, ApplyVerticesTogether, Unless, UnlessBelow, Advance, Turn, Jump, End, InstructionTree}
+use Rattle.plans.specs.Instruction.{OperationTree, ApplyEdgesTogether, ApplyVerticesTogether, Unless, UnlessBelow, Advance, Turn, Jump, End, InstructionTree}
 use Rattle.plans.specs.Fusing.{EdgeApplyTree, VertexApplyTree, edge_apply_of, vertex_apply_of, edges_fit, vertices_fit, fused_edges, fused_vertices, either, together, is_with, FusionRole, Alone}
 use Rattle.plans.specs.Fusing.{WithNext, WithPrevious, with_next, fusion_role_of, takes_next}
 use Rattle.plans.specs.Plan.{depth_after, depth_after_all, depth_in_loop, main_depth, plan_of, plain, loop_step, size_in, plan_in, size, size_all, plan, plan_all}
 use Rattle.plans.specs.Bound.{is_turn}
-use Rattle.plans.proofs.Proper.{HasNoBlock}
 use Rattle.plans.proofs.Indices.{HasAt, has_front, has_behind, has_all, length_in, length-plan, length-plan_all}
 
 -- the index to which a test leaves
@@ -28,7 +26,6 @@ pub record IsHead (code : List InstructionTree) (head to : ℕ) : Type 0 where
 
 -- a jump leads on, or back to the head of a loop whose last instruction it is
 abbrev pub LeadsWell : List InstructionTree → (index : ℕ) → OperationTree → Type 0
-LeadsWell code index (Do action) = HasNoBlock action
 LeadsWell code index (Unless c to) = index < to
 LeadsWell code index (UnlessBelow name to) = (index < to) × (is_turn (slice_get code (index + 1)) ≡ true)
 LeadsWell code index (Jump to) = (index < to) ⊎ IsHead code to (index + 1)
@@ -116,20 +113,7 @@ module _ (p : ProgramTree) (schedule : ScheduleTree) (code : List InstructionTre
   mutual
     action_leads : (a : StatementKindTree) (index number : ℕ) (label : Option ℕ) (d : Depth) → HasAt code index (plan p schedule index d number label a)
         → AllLeadWell code index (plan p schedule index d number label a)
-    action_leads (DeclareInt name e) index number label d at = (tt, tt)
-    action_leads (DeclareBool name c) index number label d at = (tt, tt)
-    action_leads (SetInt slot e) index number label d at = (tt, tt)
-    action_leads (SetBool slot c) index number label d at = (tt, tt)
-    action_leads (ReduceInt slot reduction e) index number label d at = (tt, tt)
-    action_leads (SetEntry vector subscript e) index number label d at = (tt, tt)
-    action_leads (ReduceEntry vector subscript reduction e) index number label d at = (tt, tt)
-    action_leads (DeclareSet name set) index number label d at = (tt, tt)
-    action_leads (AssignSet slot set) index number label d at = (tt, tt)
-    action_leads (AddVertex slot e) index number label d at = (tt, tt)
-    action_leads (PrintInt e) index number label d at = (tt, tt)
-    action_leads (PrintBool c) index number label d at = (tt, tt)
-    action_leads (ApplyVertex set function) index number label d at = (tt, tt)
-    action_leads (ApplyEdges ends function) index number label d at = (tt, tt)
+    action_leads (Simple a) index number label d at = (tt, tt)
     action_leads (If c body) index number label d at = (omega arith, block_leads body false (index + 1) d at.1)
     action_leads (IfElse c body other) index number label d at =
         let n = size_all p schedule d false body in

@@ -1,6 +1,6 @@
 -- By what edge applies go.
 use Rattle.std.specs.Prelude.{◌≡◌, ℕ, List, Option, Some, None, slice_get, ◌⊎◌}
-use Rattle.typed_tree.specs.BlockTree.{StatementKindTree, If, IfElse, While, For, BlockTree, Empty, Then}
+use Rattle.typed_tree.specs.BlockTree.{StatementKindTree, Simple, If, IfElse, While, For, BlockTree, Empty, Then}
 use Rattle.apply_options.specs.ScheduleTree.{ScheduleTree, apply_schedule_at}
 use Rattle.plans.specs.Instruction.{OperationTree, Do, ApplyEdgesTogether, InstructionTree}
 use Rattle.plans.specs.Fusing.{EdgeApplyTree, edge_apply_of}
@@ -13,15 +13,15 @@ abbrev mutual
       ((n ≡ number) × (l ≡ label) × (a ≡ action)) ⊎ (StandsInside a number label action ⊎ IsStatementOf rest number label action)
 
   pub StandsInside : StatementKindTree → (number : ℕ) → (label : Option ℕ) → StatementKindTree → Type 0
+  StandsInside (Simple a) number label action = ⊥
   StandsInside (If c body) number label action = IsStatementOf body number label action
   StandsInside (IfElse c body other) number label action = IsStatementOf body number label action ⊎ IsStatementOf other number label action
   StandsInside (While c body) number label action = IsStatementOf body number label action
   StandsInside (For name first end body) number label action = IsStatementOf body number label action
-  StandsInside _ number label action = ⊥
 
 -- the edge apply that an operation does, of two the first
 abbrev pub first_apply : OperationTree → Option EdgeApplyTree
-first_apply (Do action) = edge_apply_of action
+first_apply (Do action) = edge_apply_of (Simple action)
 first_apply (ApplyEdgesTogether ends a b) = Some (record { ends = ends; part = a })
 first_apply _ = None
 

@@ -12,7 +12,7 @@ use Rattle.typed_tree.specs.BoolExpressionTree.{BoolExpressionTree, Compare}
 use Rattle.typed_tree.specs.FunctionStatementTree as step
 use Rattle.typed_tree.specs.FunctionStatementTree.{FunctionTree}
 use Rattle.typed_tree.specs.BlockTree.{DeclareInt, SetEntry, DeclareSet, AssignSet, AddVertex, PrintInt, ApplyVertex, ApplyEdges, If, IfElse, While}
-use Rattle.typed_tree.specs.BlockTree.{For, BlockTree, Empty, Then}
+use Rattle.typed_tree.specs.BlockTree.{Simple, For, BlockTree, Empty, Then}
 use Rattle.typed_tree.specs.ProgramTree.{ProgramTree}
 use Rattle.apply_options.specs.declared.apply_schedule.Fused.TheVariants.{With, Into}
 use Rattle.apply_options.specs.ScheduleTree.{ScheduleTree, fused_as, no_apply_schedule}
@@ -30,11 +30,11 @@ with_main p main = record p { main = main }
 -- a breadth-first search from vertex 0: the frontier continues as long as it has members
 abbrev pub breadth_first : (frontier : VarRef) → ApplyEnds → (visit parent : ℕ) → BlockTree
 breadth_first frontier ends visit parent =
-    Then 1 None (DeclareSet frontier.name set.Empty)
-    (Then 2 None (AddVertex frontier (Number (pos 0)))
-    (Then 3 None (SetEntry parent (Number (pos 0)) (Number (pos 0)))
+    Then 1 None (Simple (DeclareSet frontier.name set.Empty))
+    (Then 2 None (Simple (AddVertex frontier (Number (pos 0))))
+    (Then 3 None (Simple (SetEntry parent (Number (pos 0)) (Number (pos 0))))
     (Then 4 None (While (Compare NotEqual (SetSize frontier) (Number (pos 0)))
-    (Then 5 (Some 0) (AssignSet frontier (set.Modified ends visit parent)) Empty))
+    (Then 5 (Some 0) (Simple (AssignSet frontier (set.Modified ends visit parent))) Empty))
     Empty)))
 
 abbrev pub HasPlanOfSearch : ProgramTree → ScheduleTree → (frontier : VarRef) → ApplyEnds → (visit parent : ℕ) → Type 0
@@ -54,9 +54,9 @@ HasPlanOfSearch p s frontier ends visit parent =
 abbrev pub loop_with_choice : (i : ℕ) → (first end : IntExpressionTree) → BoolExpressionTree → (e f : IntExpressionTree) → BlockTree
 loop_with_choice i first end c e f =
     Then 1 None (For i first end
-    (Then 2 None (IfElse c (Then 3 None (PrintInt e) Empty) (Then 4 None (PrintInt f) Empty))
+    (Then 2 None (IfElse c (Then 3 None (Simple (PrintInt e)) Empty) (Then 4 None (Simple (PrintInt f)) Empty))
     Empty))
-    (Then 5 None (If c (Then 6 None (PrintInt f) Empty))
+    (Then 5 None (If c (Then 6 None (Simple (PrintInt f)) Empty))
     Empty)
 
 abbrev pub HasPlanOfLoop : ProgramTree → ScheduleTree → (i : ℕ) → (first end : IntExpressionTree) → BoolExpressionTree → (e f : IntExpressionTree) → Type 0
@@ -89,7 +89,7 @@ sets_entries =
     ∷ []
 
 abbrev pub vertex_applies : (vertices : VarRef) → BlockTree
-vertex_applies vertices = Then 1 (Some 0) (ApplyVertex vertices 0) (Then 2 (Some 1) (ApplyVertex vertices 1) Empty)
+vertex_applies vertices = Then 1 (Some 0) (Simple (ApplyVertex vertices 0)) (Then 2 (Some 1) (Simple (ApplyVertex vertices 1)) Empty)
 
 -- the first constant set, of this name
 abbrev pub first_set : (name : ℕ) → VarRef
@@ -117,7 +117,7 @@ abbrev pub to_filtered : ApplyEnds
 to_filtered = record { from = None; to = Some (end.Function 0) }
 
 abbrev pub edge_applies : (f g : ℕ) → BlockTree
-edge_applies f g = Then 1 (Some 0) (ApplyEdges to_filtered f) (Then 2 (Some 1) (ApplyEdges to_filtered g) Empty)
+edge_applies f g = Then 1 (Some 0) (Simple (ApplyEdges to_filtered f)) (Then 2 (Some 1) (Simple (ApplyEdges to_filtered g)) Empty)
 
 abbrev pub HasPlanOfEdgePair : ProgramTree → Type 0
 HasPlanOfEdgePair p =
@@ -132,8 +132,8 @@ all_edges = record { from = None; to = None }
 
 abbrev pub modifying_applies : (m n : ℕ) → BlockTree
 modifying_applies m n =
-    Then 1 (Some 0) (DeclareSet m (set.Modified all_edges 1 1))
-    (Then 2 (Some 1) (DeclareSet n (set.Modified all_edges 2 2))
+    Then 1 (Some 0) (Simple (DeclareSet m (set.Modified all_edges 1 1)))
+    (Then 2 (Some 1) (Simple (DeclareSet n (set.Modified all_edges 2 2)))
     Empty)
 
 abbrev pub HasPlanOfModifyingPair : ProgramTree → (m n : ℕ) → Type 0

@@ -41,13 +41,13 @@ modifying result (set.Filter slot function) = None
 
 -- the edge apply, or the vertex apply, that a statement is
 abbrev pub edge_apply_of : StatementKindTree → Option EdgeApplyTree
-edge_apply_of (block.ApplyEdges ends function) = Some (record { ends = ends; part = record { function = function; result = Dropped } })
-edge_apply_of (block.DeclareSet name value) = modifying (Declared name) value
-edge_apply_of (block.AssignSet slot value) = modifying (Assigned slot) value
+edge_apply_of (block.Simple (block.ApplyEdges ends function)) = Some (record { ends = ends; part = record { function = function; result = Dropped } })
+edge_apply_of (block.Simple (block.DeclareSet name value)) = modifying (Declared name) value
+edge_apply_of (block.Simple (block.AssignSet slot value)) = modifying (Assigned slot) value
 edge_apply_of _ = None
 
 abbrev pub vertex_apply_of : StatementKindTree → Option VertexApplyTree
-vertex_apply_of (block.ApplyVertex set function) = Some (record { set = set; function = function })
+vertex_apply_of (block.Simple (block.ApplyVertex set function)) = Some (record { set = set; function = function })
 vertex_apply_of _ = None
 
 -- the index of the set that gets what an edge apply changed, where so many sets are visible; its name; and the vector

@@ -4,7 +4,7 @@ use Rattle.typed_tree.specs.declared.expression.VarRef.{VarRef}
 use Rattle.typed_tree.specs.declared.statement.ApplyEnds.{ApplyEnds}
 use Rattle.typed_tree.specs.IntExpressionTree.{IntExpressionTree}
 use Rattle.typed_tree.specs.BoolExpressionTree.{BoolExpressionTree}
-use Rattle.typed_tree.specs.BlockTree.{StatementKindTree}
+use Rattle.typed_tree.specs.BlockTree.{SimpleStatementTree}
 use Rattle.algorithm_meaning.specs.declared.state.Depth.{Depth}
 use Rattle.apply_options.specs.declared.apply_schedule.ApplySchedule.{ApplySchedule}
 
@@ -22,7 +22,7 @@ pub record EdgePartTree : Type 0 where
 -- what an instruction does; an index that it may go to is that of an instruction
 pub data OperationTree : Type 0 where
   -- a statement without a block
-  Do : StatementKindTree → OperationTree
+  Do : SimpleStatementTree → OperationTree
   -- two edge applies between the same ends, and two vertex applies to the same set
   ApplyEdgesTogether : ApplyEnds → (first second : EdgePartTree) → OperationTree
   ApplyVerticesTogether : (set : VarRef) → (first second : ℕ) → OperationTree

@@ -15,7 +15,7 @@ use Rattle.algorithm_meaning.specs.Function.{steps_of}
 use Rattle.algorithm_meaning.specs.VertexSets.{with_new_set, with_members, after_vertex}
 use Rattle.algorithm_meaning.specs.EdgeApply.{after_edge_apply, modified}
 use Rattle.algorithm_meaning.specs.Loop.{forget_beyond, next_of}
-use Rattle.algorithm_meaning.specs.Meaning.{after}
+use Rattle.algorithm_meaning.specs.Meaning.{after_simple}
 use Rattle.plans.specs.Instruction.{ResultTree, Dropped, Declared, Assigned, EdgePartTree, OperationTree, Do, ApplyEdgesTogether, ApplyVerticesTogether, Unless}
 use Rattle.plans.specs.Instruction.{Enter, UnlessBelow, Advance, Turn, Jump, End, InstructionTree}
 
@@ -88,7 +88,7 @@ after_turn (suc n) here loops shown s = At here loops (record s { turns = n })
 
 -- what an operation of a statement does at an index, on a state without what is beyond it
 abbrev pub act : ProgramTree → GraphValue → OperationTree → (number : ℕ) → (shown : Depth) → (index : ℕ) → List LoopCounter → StateValue → Configuration
-act p g (Do action) number shown index loops s = go_on (index + 1) loops shown (after p g number action s)
+act p g (Do action) number shown index loops s = go_on (index + 1) loops shown (after_simple p g number action s)
 act p g (ApplyEdgesTogether ends a b) number shown index loops s = At (index + 1) loops (after_parts p g ends (a ∷ b ∷ []) s)
 act p g (ApplyVerticesTogether set a b) number shown index loops s = At (index + 1) loops (after_apply_both p set.index a b s)
 act p g (Unless c to) number shown index loops s = after_unless (bool_value_in g.vertices c s) (index + 1) to loops number shown s

@@ -4,8 +4,8 @@ use Rattle.std.specs.Option.{unwrap_or}
 use Rattle.typed_tree.specs.declared.statement.ApplyEnds.{ApplyEnds}
 use Rattle.typed_tree.specs.IntExpressionTree.{IntExpressionTree}
 use Rattle.typed_tree.specs.BoolExpressionTree.{BoolExpressionTree}
-use Rattle.typed_tree.specs.BlockTree.{StatementKindTree, DeclareInt, DeclareBool, SetInt, SetBool, ReduceInt, SetEntry, ReduceEntry}
-use Rattle.typed_tree.specs.BlockTree.{DeclareSet, AssignSet, AddVertex, PrintInt, PrintBool, ApplyVertex}
+use Rattle.typed_tree.specs.BlockTree.{SimpleStatementTree, DeclareInt, DeclareBool, SetInt, SetBool, ReduceInt, SetEntry, ReduceEntry}
+use Rattle.typed_tree.specs.BlockTree.{DeclareSet, AssignSet, AddVertex, PrintInt, PrintBool, ApplyVertex, Simple}
 use Rattle.typed_tree.specs.declared.statement.SetValue.{SetValue}
 use Rattle.typed_tree.specs.ProgramTree.{ProgramTree}
 use Rattle.typed_tree.specs.declared.statement.SetValue.TheVariants as set
@@ -77,9 +77,9 @@ part_tree part = record { function = part.function; result = result_tree part.re
 
 -- the operation is a statement that is this edge apply
 pub record AppliesEdges (ends : ApplyEnds) (part : EdgePart) (o : OperationTree) : Type 0 where
-  pub action : StatementKindTree
+  pub action : SimpleStatementTree
   pub is : o ≡ Do action
-  pub applies : edge_apply_of action ≡ Some (record { ends = ends; part = part_tree part })
+  pub applies : edge_apply_of (Simple action) ≡ Some (record { ends = ends; part = part_tree part })
 
 abbrev pub ApplyEdgesOf : ApplyEnds → (first : EdgePart) → (second : Option EdgePart) → OperationTree → Type 0
 ApplyEdgesOf ends first None o = AppliesEdges ends first o
@@ -93,19 +93,19 @@ set_value (Copy slot) = set.Copy slot
 set_value (Filter slot function) = set.Filter slot function
 
 -- the statement that uses the value of an expression so
-abbrev pub int_statement : IntUse → IntExpressionTree → StatementKindTree
+abbrev pub int_statement : IntUse → IntExpressionTree → SimpleStatementTree
 int_statement (int_use.Declare name) e = DeclareInt name e
 int_statement (int_use.Set slot) e = SetInt slot e
 int_statement (int_use.Reduce slot reduction) e = ReduceInt slot reduction e
 int_statement int_use.Print e = PrintInt e
 
-abbrev pub bool_statement : BoolUse → BoolExpressionTree → StatementKindTree
+abbrev pub bool_statement : BoolUse → BoolExpressionTree → SimpleStatementTree
 bool_statement (bool_use.Declare name) c = DeclareBool name c
 bool_statement (bool_use.Set slot) c = SetBool slot c
 bool_statement bool_use.Print c = PrintBool c
 
 -- the statement that writes to an entry so
-abbrev pub entry_statement : (vector : ℕ) → EntryUse → (index e : IntExpressionTree) → StatementKindTree
+abbrev pub entry_statement : (vector : ℕ) → EntryUse → (index e : IntExpressionTree) → SimpleStatementTree
 entry_statement vector entry_use.Set index e = SetEntry vector index e
 entry_statement vector (entry_use.Reduce reduction) index e = ReduceEntry vector index reduction e
 

@@ -1,7 +1,7 @@
 -- The plan of a program, and of which program a plan is.
 use Rattle.std.specs.Prelude.{[], ℕ, ◌+◌, Bool, false, List, ◌∷◌, ◌++◌, length, Option, ◌≡◌}
 use Rattle.apply_options.specs.ScheduleTree.{ScheduleTree, apply_schedule_at, no_apply_schedule}
-use Rattle.typed_tree.specs.BlockTree.{StatementKindTree, DeclareInt, DeclareBool, DeclareSet, If, IfElse, While, For, BlockTree, Empty, Then}
+use Rattle.typed_tree.specs.BlockTree.{StatementKindTree, Simple, DeclareInt, DeclareBool, DeclareSet, If, IfElse, While, For, BlockTree, Empty, Then}
 use Rattle.typed_tree.specs.ProgramTree.{ProgramTree}
 use Rattle.typed_tree.specs.declared.program.Vector.{Vector}
 use Rattle.algorithm_meaning.specs.declared.state.Depth.{Depth}
@@ -31,9 +31,9 @@ main_depth p = record { integers = 0; conditions = 0; sets = length p.sets }
 
 -- after a statement of main, and after all of a block
 abbrev pub depth_after : StatementKindTree → Depth → Depth
-depth_after (DeclareInt name e) d = depth_with_integer d
-depth_after (DeclareBool name c) d = depth_with_condition d
-depth_after (DeclareSet name value) d = depth_with_set d
+depth_after (Simple (DeclareInt name e)) d = depth_with_integer d
+depth_after (Simple (DeclareBool name c)) d = depth_with_condition d
+depth_after (Simple (DeclareSet name value)) d = depth_with_set d
 depth_after _ d = d
 
 abbrev pub depth_after_all : BlockTree → Depth → Depth
@@ -66,11 +66,11 @@ plan_in WithPrevious s number label d is = []
 abbrev mutual
   -- how many instructions a statement has
   pub size : ProgramTree → ScheduleTree → Depth → StatementKindTree → ℕ
+  size p s d (Simple a) = 1
   size p s d (If c body) = 1 + size_all p s d false body
   size p s d (IfElse c body other) = 1 + size_all p s d false body + 1 + size_all p s d false other
   size p s d (While c body) = 2 + size_all p s d false body + 1
   size p s d (For name first end body) = 4 + size_all p s (depth_in_loop d) false body + 2
-  size p s d _ = 1
 
   -- and those of a block, whose first one may be done already
   pub size_all : ProgramTree → ScheduleTree → Depth → (is_done : Bool) → BlockTree → ℕ
@@ -82,6 +82,7 @@ abbrev mutual
 abbrev mutual
   -- the instructions of a statement, of which the first is at this index
   pub plan : ProgramTree → ScheduleTree → (index : ℕ) → Depth → (number : ℕ) → Option ℕ → StatementKindTree → List InstructionTree
+  plan p s index d number label (Simple a) = chosen s number label d (Do a) ∷ []
   plan p s index d number label (If c body) =
       plain number d (Unless c (index + 1 + size_all p s d false body))
       ∷ plan_all p s (index + 1) d false body
@@ -103,7 +104,6 @@ abbrev mutual
       ∷ (plan_all p s (index + 4) (depth_in_loop d) false body
       ++ plain number d (Advance name)
       ∷ loop_step number (depth_in_loop d) d (Jump (index + 2)) ∷ [])
-  plan p s index d number label action = chosen s number label d (Do action) ∷ []
 
   -- the instructions of a block
   pub plan_all : ProgramTree → ScheduleTree → (index : ℕ) → Depth → (is_done : Bool) → BlockTree → List InstructionTree

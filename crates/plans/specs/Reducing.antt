@@ -2,6 +2,7 @@
 use Rattle.std.specs.Prelude.{◌≡◌, ℕ, List, [], ◌∷◌, map, slice_get, Option, Some, None}
 use Rattle.apply_options.specs.declared.reduction.Reduction.{Reduction}
 use Rattle.typed_tree.specs.FunctionStatementTree.{FunctionTree, FunctionStatementsTree}
+use Rattle.typed_tree.specs.BlockTree.{Simple}
 use Rattle.typed_tree.specs.ProgramTree.{ProgramTree}
 use Rattle.algorithm_meaning.specs.Function.{steps_of}
 use Rattle.algorithm_meaning.specs.EdgeApply.{IsGivenBy}
@@ -30,7 +31,7 @@ AreReduced steps m = (vector : ℕ) → IsReducedAlone steps m vector
 
 -- whatever the state, the edge apply of an operation gives each vector numbers by one reduction
 abbrev pub OperationReduces : ProgramTree → OperationTree → Type 0
-OperationReduces p (Do action) = (x : EdgeApplyTree) → edge_apply_of action ≡ Some x → (m : StateValue)
+OperationReduces p (Do action) = (x : EdgeApplyTree) → edge_apply_of (Simple action) ≡ Some x → (m : StateValue)
     → AreReduced (steps_at p.edge_functions (indices_of x.part.function None)) m
 OperationReduces p (ApplyEdgesTogether ends a b) = (m : StateValue) → AreReduced (steps_at p.edge_functions (indices_of a.function (Some b.function))) m
 OperationReduces p (ApplyVerticesTogether set f g) = Unit {0}

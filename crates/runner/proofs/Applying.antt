@@ -5,12 +5,12 @@ use Rattle.std.specs.Option.{option_map}
 use Rattle.std.proofs.lemmas.List.{get_or_past}
 use Rattle.typed_tree.specs.declared.statement.ApplyEnds.{ApplyEnds}
 use Rattle.typed_tree.specs.declared.statement.SetValue.TheVariants as set
-use Rattle.typed_tree.specs.BlockTree.{StatementKindTree, ApplyEdges, AssignSet, DeclareSet}
+use Rattle.typed_tree.specs.BlockTree.{SimpleStatementTree, ApplyEdges, AssignSet, DeclareSet, Simple}
 use Rattle.typed_tree.specs.ProgramTree.{ProgramTree}
 use Rattle.algorithm_meaning.specs.Arithmetic.{int_equal}
 use Rattle.algorithm_meaning.specs.EdgeApply.{after_edge_apply, is_modified, modified}
 use Rattle.algorithm_meaning.specs.Statements.{with_vectors}
-use Rattle.algorithm_meaning.specs.Meaning.{after}
+use Rattle.algorithm_meaning.specs.Meaning.{after_simple}
 use Rattle.algorithm_meaning.specs.Stand.{Stand, Live}
 use Rattle.algorithm_meaning.specs.State.{GraphValue, StateValue}
 use Rattle.algorithm_meaning.specs.Value.{entry}
@@ -101,17 +101,17 @@ vectors_of_both s a b = vectors_stay (with_update s a) b ∙ vectors_stay s a
 
 -- the statement is this apply
 module _ (p : ProgramTree) (g : GraphValue) (number : ℕ) (s : StateValue) where
-  abbrev IsDoneBy : StatementKindTree → Option EdgeApplyTree → Type 0
+  abbrev IsDoneBy : SimpleStatementTree → Option EdgeApplyTree → Type 0
   IsDoneBy a None = Unit {0}
-  IsDoneBy a (Some x) = after p g number a s ≡ Live (after_part p g x s)
+  IsDoneBy a (Some x) = after_simple p g number a s ≡ Live (after_part p g x s)
 
-  is_done_by : (a : StatementKindTree) → IsDoneBy a (edge_apply_of a)
+  is_done_by : (a : SimpleStatementTree) → IsDoneBy a (edge_apply_of (Simple a))
   is_done_by (ApplyEdges ends function) = refl
   is_done_by (DeclareSet name (set.Modified ends function vector)) = refl
   is_done_by (AssignSet slot (set.Modified ends function vector)) = refl
   is_done_by a = tt
 
-  done_by : (a : StatementKindTree) (x : EdgeApplyTree) → edge_apply_of a ≡ Some x → after p g number a s ≡ Live (after_part p g x s)
+  done_by : (a : SimpleStatementTree) (x : EdgeApplyTree) → edge_apply_of (Simple a) ≡ Some x → after_simple p g number a s ≡ Live (after_part p g x s)
   done_by a x is = subst (IsDoneBy a) is (is_done_by a)
 
 -- the functions of one part or two

@@ -18,7 +18,8 @@ use Rattle.typed_tree.specs.ProgramTree.{ProgramTree}
 use Rattle.typed_tree.specs.declared.statement.SetValue.{SetValue}
 use Rattle.typed_tree.specs.declared.apply.StatementApply.{StatementApply}
 use Rattle.typed_tree.specs.declared.apply.StatementApply.TheVariants.{Edges, Vertices}
-use Rattle.typed_tree.specs.BlockTree.{StatementKindTree, ApplyVertex, ApplyEdges, DeclareSet, AssignSet, BlockTree, Empty, Then, If, IfElse, While, For}
+use Rattle.typed_tree.specs.BlockTree.{ApplyVertex, ApplyEdges, DeclareSet, AssignSet}
+use Rattle.typed_tree.specs.BlockTree.{StatementKindTree, Simple, If, IfElse, While, For, BlockTree, Empty, Then}
 use Rattle.typed_tree.specs.declared.statement.SetValue.TheVariants as value
 use Rattle.schedule.specs.declared.site.Site.{Site}
 
@@ -62,10 +63,10 @@ modifying_as name _ = None
 
 -- what a statement applies
 abbrev pub apply_of : StatementKindTree → Option StatementApply
-apply_of (ApplyVertex set function) = Some (Vertices set function)
-apply_of (ApplyEdges ends function) = Some (Edges ends function None)
-apply_of (DeclareSet name set) = modifying_as name set
-apply_of (AssignSet slot set) = modifying_as slot.name set
+apply_of (Simple (ApplyVertex set function)) = Some (Vertices set function)
+apply_of (Simple (ApplyEdges ends function)) = Some (Edges ends function None)
+apply_of (Simple (DeclareSet name set)) = modifying_as name set
+apply_of (Simple (AssignSet slot set)) = modifying_as slot.name set
 apply_of _ = None
 
 -- the label of the first statement
@@ -81,11 +82,11 @@ site_at (Some label) action rest = (label, record { apply = apply_of action; nex
 abbrev mutual
   -- the labels in the blocks of a statement
   pub sites_in : StatementKindTree → List (ℕ × Site)
+  sites_in (Simple a) = []
   sites_in (If c body) = sites_of body
   sites_in (IfElse c body other) = sites_of body ++ sites_of other
   sites_in (While c body) = sites_of body
   sites_in (For name first end body) = sites_of body
-  sites_in _ = []
 
   -- the labels of statements, each with what it is before, in the order of the text
   pub sites_of : BlockTree → List (ℕ × Site)

@@ -1,7 +1,7 @@
 //! Label sites: what each label of a program is before.
 ghost use Rattle.std.specs.Prelude.{◌≡◌, ◌++◌, drop, nat_eq, IfOk, OnOk};
 ghost use Rattle.std.specs.Map.{lookup};
-ghost use Rattle.typed_tree.specs.BlockTree.{statement_kind_tree, simple_statement_tree, block_tree};
+ghost use Rattle.typed_tree.specs.BlockTree.{Simple, statement_kind_tree, simple_statement_tree, block_tree};
 ghost use Rattle.schedule.specs.Schedule.{apply_of, label_of, modifying_as, sites_in, sites_of};
 ghost use Rattle.schedule.specs.inside.Putting.{AreSites, PutsSite};
 
@@ -101,7 +101,6 @@ fn push_sites(
 
 /// Puts the labels of the statements in the blocks of a statement after the others, in the order of the text.
 #[cycle(sites)]
-#[tactic(auto, using(crate::proofs::SimpleStatements::simple_has_no_sites))]
 fn push_inner(action: &StatementKind, sites: &mut Vec<(usize, Site)>) -> Result<(), AllocError>
     ensures { OnOk result (sites.new.items ≡ sites.old.items ++ sites_in (statement_kind_tree action.now)) }
 {
@@ -137,7 +136,7 @@ fn applied_in(action: &StatementKind) -> Option<StatementApply>
 /// What a statement without a block applies, if it does.
 #[tactic(auto, using(crate::proofs::SimpleStatements::value_applies_nothing))]
 fn applied_by(statement: &SimpleStatement) -> Option<StatementApply>
-    ensures { result ≡ apply_of (simple_statement_tree statement.now) }
+    ensures { result ≡ apply_of (Simple (simple_statement_tree statement.now)) }
 {
     match statement {
         SimpleStatement::ApplyVertex(set, function) => Some(StatementApply::Vertices {

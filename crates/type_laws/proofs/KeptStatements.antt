@@ -8,7 +8,7 @@ use Rattle.syntax.specs.SourceTrees as source
 use Rattle.syntax.specs.declared.declaration.DeclaredType.{DeclaredType}
 use Rattle.syntax.specs.declared.declaration.DeclaredType.TheVariants as declared
 use Rattle.apply_options.specs.declared.reduction.Reduction.{Reduction}
-use Rattle.typed_tree.specs.BlockTree.{StatementKindTree, BlockTree, Empty, DeclareBool, DeclareInt, DeclareSet}
+use Rattle.typed_tree.specs.BlockTree.{StatementKindTree, Simple, BlockTree, Empty, DeclareBool, DeclareInt, DeclareSet}
 use Rattle.typed_tree.specs.IntExpressionTree.{IntExpressionTree}
 use Rattle.typed_tree.specs.declared.statement.SetValue.TheVariants as set
 use Rattle.expression_types.specs.declared.fault.TypeRule.TheVariants as rule
@@ -211,17 +211,20 @@ declare_kept : (c : CheckerTree) (k : Known) → Matches inside.Main c k → (at
 declare_kept c k m at name initial declared.Int fits new =
     let g = initializer_of c at initial in
     let x = given_number inside.Main c k m at initial fits in
-    let d = declares inside.Main c k m name (entity.IntVariable (integer_slot c)) meaning.NumberVariable refl new (initializer_integer at g.value) x.1 (DeclareInt (length c.names)) in
+    let d = declares inside.Main c k m name (entity.IntVariable (integer_slot c)) meaning.NumberVariable refl new (initializer_integer at g.value) x.1
+    (λ e. Simple (DeclareInt (length c.names) e)) in
     (both_none g.faults _ x.0 d.0, d.1)
 declare_kept c k m at name initial declared.Bool fits new =
     let g = initializer_of c at initial in
     let x = given_truth inside.Main c k m at initial fits in
-    let d = declares inside.Main c k m name (entity.BoolVariable (condition_slot c)) meaning.TruthVariable refl new (initializer_condition at g.value) x.1 (DeclareBool (length c.names)) in
+    let d = declares inside.Main c k m name (entity.BoolVariable (condition_slot c)) meaning.TruthVariable refl new (initializer_condition at g.value) x.1
+    (λ e. Simple (DeclareBool (length c.names) e)) in
     (both_none g.faults _ x.0 d.0, d.1)
 declare_kept c k m at name initial declared.VertexSet fits new =
     let g = initializer_of c at initial in
     let x = given_members inside.Main c k m at initial fits.1 in
-    let d = declares inside.Main c k m name (entity.SetVariable (set_slot c)) meaning.SetVariable refl new (initializer_members at g.value) x.1 (DeclareSet (length c.names)) in
+    let d = declares inside.Main c k m name (entity.SetVariable (set_slot c)) meaning.SetVariable refl new (initializer_members at g.value) x.1
+    (λ s. Simple (DeclareSet (length c.names) s)) in
     (both_none g.faults _ x.0 d.0, d.1)
 declare_kept c k m at name initial declared.Vertex fits new = absurd fits
 declare_kept c k m at name initial declared.Vector fits new = absurd fits

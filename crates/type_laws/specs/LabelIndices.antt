@@ -1,8 +1,6 @@
 -- The labels of the statements of main, as indices among all labels.
 use Rattle.std.specs.Prelude.{ℕ, List, [], ◌∷◌, ◌++◌, Option, Some, None}
-use Rattle.typed_tree.specs.BlockTree.{StatementKindTree, DeclareInt, DeclareBool, SetInt, SetBool, ReduceInt, SetEntry, ReduceEntry}
-use Rattle.typed_tree.specs.BlockTree.{DeclareSet, AssignSet, AddVertex, PrintInt, PrintBool, ApplyVertex, ApplyEdges, If, IfElse, While, For}
-use Rattle.typed_tree.specs.BlockTree.{BlockTree, Empty, Then}
+use Rattle.typed_tree.specs.BlockTree.{StatementKindTree, Simple, If, IfElse, While, For, BlockTree, Empty, Then}
 use Rattle.typed_tree.specs.ProgramTree.{ProgramTree}
 use Rattle.type_laws.specs.Numbers.{InOrder}
 
@@ -14,20 +12,7 @@ own_index (Some label) = label ∷ []
 abbrev mutual
   -- those of the statements inside a statement
   pub inner_indices : StatementKindTree → List ℕ
-  inner_indices (DeclareInt name e) = []
-  inner_indices (DeclareBool name c) = []
-  inner_indices (SetInt slot e) = []
-  inner_indices (SetBool slot c) = []
-  inner_indices (ReduceInt slot by e) = []
-  inner_indices (SetEntry vector index e) = []
-  inner_indices (ReduceEntry vector index by e) = []
-  inner_indices (DeclareSet name value) = []
-  inner_indices (AssignSet slot value) = []
-  inner_indices (AddVertex slot e) = []
-  inner_indices (PrintInt e) = []
-  inner_indices (PrintBool c) = []
-  inner_indices (ApplyVertex slot function) = []
-  inner_indices (ApplyEdges ends function) = []
+  inner_indices (Simple a) = []
   inner_indices (If c body) = label_indices body
   inner_indices (IfElse c body other) = label_indices body ++ label_indices other
   inner_indices (While c body) = label_indices body

@@ -1,8 +1,6 @@
 -- Programs with no statement that assigns a variable of a `for` around it.
 use Rattle.std.specs.Prelude.{◌≢◌, ℕ, ◌+◌, List, [], ◌∷◌}
-use Rattle.typed_tree.specs.BlockTree.{StatementKindTree, DeclareInt, DeclareBool, SetInt, SetBool, ReduceInt, SetEntry, ReduceEntry}
-use Rattle.typed_tree.specs.BlockTree.{DeclareSet, AssignSet, AddVertex, PrintInt, PrintBool, ApplyVertex, ApplyEdges, If, IfElse, While, For}
-use Rattle.typed_tree.specs.BlockTree.{BlockTree, Empty, Then}
+use Rattle.typed_tree.specs.BlockTree.{StatementKindTree, Simple, DeclareInt, SetInt, SetBool, ReduceInt, If, IfElse, While, For, BlockTree, Empty, Then}
 use Rattle.typed_tree.specs.ProgramTree.{ProgramTree}
 
 -- An integer is no variable of these loops, and no bound. A loop has its variable at its index and its bound at the next one.
@@ -12,27 +10,17 @@ IsOutside (i ∷ is) x = (x ≢ i) × (x ≢ i + 1) × IsOutside is x
 
 -- how many integers are visible after a statement, if n are visible before it
 abbrev pub integers_behind : StatementKindTree → ℕ → ℕ
-integers_behind (DeclareInt name e) n = n + 1
+integers_behind (Simple (DeclareInt name e)) n = n + 1
 integers_behind _ n = n
 
 abbrev mutual
   -- A statement assigns no variable of the loops around it, and neither do those in it. If n integers are visible before a loop, its
   -- variable has the index n.
   pub KeepsInside : (integers : ℕ) → (indices : List ℕ) → StatementKindTree → Type 0
-  KeepsInside n is (DeclareInt name e) = Unit {0}
-  KeepsInside n is (DeclareBool name c) = Unit {0}
-  KeepsInside n is (SetInt slot e) = IsOutside is slot.index
-  KeepsInside n is (SetBool slot c) = Unit {0}
-  KeepsInside n is (ReduceInt slot by e) = IsOutside is slot.index
-  KeepsInside n is (SetEntry vector index e) = Unit {0}
-  KeepsInside n is (ReduceEntry vector index by e) = Unit {0}
-  KeepsInside n is (DeclareSet name value) = Unit {0}
-  KeepsInside n is (AssignSet slot value) = Unit {0}
-  KeepsInside n is (AddVertex slot e) = Unit {0}
-  KeepsInside n is (PrintInt e) = Unit {0}
-  KeepsInside n is (PrintBool c) = Unit {0}
-  KeepsInside n is (ApplyVertex set function) = Unit {0}
-  KeepsInside n is (ApplyEdges ends function) = Unit {0}
+  KeepsInside n is (Simple (SetInt slot e)) = IsOutside is slot.index
+  KeepsInside n is (Simple (ReduceInt slot by e)) = IsOutside is slot.index
+  KeepsInside n is (Simple (SetBool slot c)) = Unit {0}
+  KeepsInside n is (Simple _) = Unit {0}
   KeepsInside n is (If c body) = KeepsLoops n is body
   KeepsInside n is (IfElse c body other) = KeepsLoops n is body × KeepsLoops n is other
   KeepsInside n is (While c body) = KeepsLoops n is body

@@ -6,8 +6,7 @@ use Rattle.typed_tree.specs.declared.statement.VertexFilter.TheVariants as filte
 use Rattle.typed_tree.specs.declared.statement.ApplyEnds.{ApplyEnds}
 use Rattle.typed_tree.specs.declared.statement.SetValue.{SetValue}
 use Rattle.typed_tree.specs.declared.statement.SetValue.TheVariants as set
-use Rattle.typed_tree.specs.BlockTree.{StatementKindTree, DeclareInt, DeclareBool, SetInt, SetBool, ReduceInt, SetEntry, ReduceEntry}
-use Rattle.typed_tree.specs.BlockTree.{DeclareSet, AssignSet, AddVertex, PrintInt, PrintBool, ApplyVertex, ApplyEdges, If, IfElse, While, For}
+use Rattle.typed_tree.specs.BlockTree.{StatementKindTree, Simple, DeclareSet, AssignSet, AddVertex, ApplyVertex, ApplyEdges}
 use Rattle.typed_tree.specs.Independence.{are_same}
 use Rattle.typed_tree.specs.ProgramTree.{ProgramTree}
 use Rattle.type_laws.specs.EachStatement.{SetNames, HoldsOfEach, names_before}
@@ -43,24 +42,12 @@ ValueIsVisible names (set.Modified ends function vector) = EndsAreVisible names 
 -- Each set is visible that a statement changes, filters, applies a vertex function to or has as an end of an edge apply; and one that it
 -- changes is a variable.
 abbrev pub SetsAreVisible : ProgramTree → SetNames → StatementKindTree → Type 0
-SetsAreVisible p names (DeclareInt name e) = Unit {0}
-SetsAreVisible p names (DeclareBool name c) = Unit {0}
-SetsAreVisible p names (SetInt slot e) = Unit {0}
-SetsAreVisible p names (SetBool slot c) = Unit {0}
-SetsAreVisible p names (ReduceInt slot by e) = Unit {0}
-SetsAreVisible p names (SetEntry vector index e) = Unit {0}
-SetsAreVisible p names (ReduceEntry vector index by e) = Unit {0}
-SetsAreVisible p names (DeclareSet name value) = ValueIsVisible names value
-SetsAreVisible p names (AssignSet slot value) = (IsVisible names slot × IsVariable p slot) × ValueIsVisible names value
-SetsAreVisible p names (AddVertex slot e) = IsVisible names slot × IsVariable p slot
-SetsAreVisible p names (PrintInt e) = Unit {0}
-SetsAreVisible p names (PrintBool c) = Unit {0}
-SetsAreVisible p names (ApplyVertex slot function) = IsVisible names slot
-SetsAreVisible p names (ApplyEdges ends function) = EndsAreVisible names ends
-SetsAreVisible p names (If c body) = Unit {0}
-SetsAreVisible p names (IfElse c body other) = Unit {0}
-SetsAreVisible p names (While c body) = Unit {0}
-SetsAreVisible p names (For name first end body) = Unit {0}
+SetsAreVisible p names (Simple (DeclareSet name value)) = ValueIsVisible names value
+SetsAreVisible p names (Simple (AssignSet slot value)) = (IsVisible names slot × IsVariable p slot) × ValueIsVisible names value
+SetsAreVisible p names (Simple (AddVertex slot e)) = IsVisible names slot × IsVariable p slot
+SetsAreVisible p names (Simple (ApplyVertex slot function)) = IsVisible names slot
+SetsAreVisible p names (Simple (ApplyEdges ends function)) = EndsAreVisible names ends
+SetsAreVisible p names _ = Unit {0}
 
 -- so it is at a statement
 abbrev pub NamesSets : ProgramTree → SetNames → StatementKindTree → Type 0

@@ -14,23 +14,27 @@ use Rattle.typed_tree.specs.declared.statement.MainStatement.{MainStatement}
 use Rattle.typed_tree.specs.IntExpressionTree.{IntExpressionTree, int_expression_tree}
 use Rattle.typed_tree.specs.BoolExpressionTree.{BoolExpressionTree, bool_expression_tree}
 
+-- what a statement without a block does
+pub data SimpleStatementTree : Type 0 where
+  DeclareInt : (name : ℕ) → IntExpressionTree → SimpleStatementTree
+  DeclareBool : (name : ℕ) → BoolExpressionTree → SimpleStatementTree
+  SetInt : VarRef → IntExpressionTree → SimpleStatementTree
+  SetBool : VarRef → BoolExpressionTree → SimpleStatementTree
+  ReduceInt : VarRef → Reduction → IntExpressionTree → SimpleStatementTree
+  SetEntry : (vector : ℕ) → (index value : IntExpressionTree) → SimpleStatementTree
+  ReduceEntry : (vector : ℕ) → (index : IntExpressionTree) → Reduction → (value : IntExpressionTree) → SimpleStatementTree
+  DeclareSet : (name : ℕ) → SetValue → SimpleStatementTree
+  AssignSet : VarRef → SetValue → SimpleStatementTree
+  AddVertex : VarRef → IntExpressionTree → SimpleStatementTree
+  PrintInt : IntExpressionTree → SimpleStatementTree
+  PrintBool : BoolExpressionTree → SimpleStatementTree
+  ApplyVertex : (set : VarRef) → (function : ℕ) → SimpleStatementTree
+  ApplyEdges : ApplyEnds → (function : ℕ) → SimpleStatementTree
+
 mutual
   -- what a statement does
   pub data StatementKindTree : Type 0 where
-    DeclareInt : (name : ℕ) → IntExpressionTree → StatementKindTree
-    DeclareBool : (name : ℕ) → BoolExpressionTree → StatementKindTree
-    SetInt : VarRef → IntExpressionTree → StatementKindTree
-    SetBool : VarRef → BoolExpressionTree → StatementKindTree
-    ReduceInt : VarRef → Reduction → IntExpressionTree → StatementKindTree
-    SetEntry : (vector : ℕ) → (index value : IntExpressionTree) → StatementKindTree
-    ReduceEntry : (vector : ℕ) → (index : IntExpressionTree) → Reduction → (value : IntExpressionTree) → StatementKindTree
-    DeclareSet : (name : ℕ) → SetValue → StatementKindTree
-    AssignSet : VarRef → SetValue → StatementKindTree
-    AddVertex : VarRef → IntExpressionTree → StatementKindTree
-    PrintInt : IntExpressionTree → StatementKindTree
-    PrintBool : BoolExpressionTree → StatementKindTree
-    ApplyVertex : (set : VarRef) → (function : ℕ) → StatementKindTree
-    ApplyEdges : ApplyEnds → (function : ℕ) → StatementKindTree
+    Simple : SimpleStatementTree → StatementKindTree
     If : BoolExpressionTree → BlockTree → StatementKindTree
     IfElse : BoolExpressionTree → (body other : BlockTree) → StatementKindTree
     While : BoolExpressionTree → BlockTree → StatementKindTree
@@ -42,7 +46,7 @@ mutual
     Then : (number : ℕ) → (label : Option ℕ) → StatementKindTree → BlockTree → BlockTree
 
 -- the tree of a statement that takes a value
-abbrev pub value_statement_tree : ValueStatement → StatementKindTree
+abbrev pub value_statement_tree : ValueStatement → SimpleStatementTree
 value_statement_tree (value.DeclareInt name e) = DeclareInt name (int_expression_tree e)
 value_statement_tree (value.DeclareBool name c) = DeclareBool name (bool_expression_tree c)
 value_statement_tree (value.SetInt slot e) = SetInt slot (int_expression_tree e)
@@ -53,7 +57,7 @@ value_statement_tree (value.PrintInt e) = PrintInt (int_expression_tree e)
 value_statement_tree (value.PrintBool c) = PrintBool (bool_expression_tree c)
 
 -- the tree of a statement without a block
-abbrev pub simple_statement_tree : SimpleStatement → StatementKindTree
+abbrev pub simple_statement_tree : SimpleStatement → SimpleStatementTree
 simple_statement_tree (simple.Value s) = value_statement_tree s
 simple_statement_tree (simple.SetEntry vector index value) = SetEntry vector (int_expression_tree index) (int_expression_tree value)
 simple_statement_tree (simple.ReduceEntry vector index reduction value) = ReduceEntry vector (int_expression_tree index) reduction (int_expression_tree value)
@@ -65,7 +69,7 @@ simple_statement_tree (simple.ApplyEdges ends function) = ApplyEdges ends functi
 -- the tree that a Rust tree is
 abbrev mutual
   pub statement_kind_tree : StatementKind → StatementKindTree
-  statement_kind_tree (rust.Simple s) = simple_statement_tree s
+  statement_kind_tree (rust.Simple s) = Simple (simple_statement_tree s)
   statement_kind_tree (rust.If' c shape body) = If (bool_expression_tree c) (row_tree body)
   statement_kind_tree (rust.IfElse' c shape body shape' other) = IfElse (bool_expression_tree c) (row_tree body) (row_tree other)
   statement_kind_tree (rust.While' c shape body) = While (bool_expression_tree c) (row_tree body)

@@ -17,7 +17,7 @@ use Rattle.typed_tree.specs.BoolExpressionTree.{BoolExpressionTree}
 use Rattle.typed_tree.specs.FunctionStatementTree as step
 use Rattle.typed_tree.specs.FunctionStatementTree.{FunctionTree, FunctionStatementTree, FunctionStatementsTree}
 use Rattle.typed_tree.specs.BlockTree as action
-use Rattle.typed_tree.specs.BlockTree.{StatementKindTree, BlockTree}
+use Rattle.typed_tree.specs.BlockTree.{SimpleStatementTree, StatementKindTree, BlockTree}
 use Rattle.typed_tree.specs.ProgramTree.{ProgramTree}
 
 -- What is visible at a point of a program, at its index: the names of the integers, of the conditions and of the vertex sets, of which
@@ -161,41 +161,31 @@ abbrev mutual
 
 -- after a statement of main
 abbrev pub after_action : StatementKindTree → VisibleTree → VisibleTree
-after_action (action.DeclareInt name e) v = with_integer name v
-after_action (action.DeclareBool name c) v = with_condition name v
-after_action (action.SetInt slot e) v = v
-after_action (action.SetBool slot c) v = v
-after_action (action.ReduceInt slot by e) v = v
-after_action (action.SetEntry vector index e) v = v
-after_action (action.ReduceEntry vector index by e) v = v
-after_action (action.DeclareSet name value) v = with_set name v
-after_action (action.AssignSet slot value) v = v
-after_action (action.AddVertex slot e) v = v
-after_action (action.PrintInt e) v = v
-after_action (action.PrintBool c) v = v
-after_action (action.ApplyVertex slot function) v = v
-after_action (action.ApplyEdges ends function) v = v
-after_action (action.If c body) v = v
-after_action (action.IfElse c body other) v = v
-after_action (action.While c body) v = v
-after_action (action.For name first end body) v = v
+after_action (action.Simple (action.DeclareInt name e)) v = with_integer name v
+after_action (action.Simple (action.DeclareBool name c)) v = with_condition name v
+after_action (action.Simple (action.DeclareSet name value)) v = with_set name v
+after_action _ v = v
+
+-- a statement without a block
+abbrev pub SimpleActionIsResolved : ProgramTree → VisibleTree → SimpleStatementTree → Type 0
+SimpleActionIsResolved p v (action.DeclareInt name e) = IsNameIndex p name × IntegerIsResolved p v e
+SimpleActionIsResolved p v (action.DeclareBool name c) = IsNameIndex p name × ConditionIsResolved p v c
+SimpleActionIsResolved p v (action.SetInt slot e) = IsIntVariable p v slot × IntegerIsResolved p v e
+SimpleActionIsResolved p v (action.SetBool slot c) = IsCondition p v slot × ConditionIsResolved p v c
+SimpleActionIsResolved p v (action.ReduceInt slot by e) = IsIntVariable p v slot × IntegerIsResolved p v e
+SimpleActionIsResolved p v (action.SetEntry vector index e) = IsVectorIndex p vector × IntegerIsResolved p v index × IntegerIsResolved p v e
+SimpleActionIsResolved p v (action.ReduceEntry vector index by e) = IsVectorIndex p vector × IntegerIsResolved p v index × IntegerIsResolved p v e
+SimpleActionIsResolved p v (action.DeclareSet name value) = IsNameIndex p name × SetIsResolved p v value
+SimpleActionIsResolved p v (action.AssignSet slot value) = IsSetVariable p v slot × SetIsResolved p v value
+SimpleActionIsResolved p v (action.AddVertex slot e) = IsSetVariable p v slot × IntegerIsResolved p v e
+SimpleActionIsResolved p v (action.PrintInt e) = IntegerIsResolved p v e
+SimpleActionIsResolved p v (action.PrintBool c) = ConditionIsResolved p v c
+SimpleActionIsResolved p v (action.ApplyVertex slot function) = IsSetVariable p v slot × IsVertexFunction p function
+SimpleActionIsResolved p v (action.ApplyEdges ends function) = EndsAreResolved p v ends × IsEdgeFunction p function
 
 abbrev mutual
   pub ActionIsResolved : ProgramTree → VisibleTree → StatementKindTree → Type 0
-  ActionIsResolved p v (action.DeclareInt name e) = IsNameIndex p name × IntegerIsResolved p v e
-  ActionIsResolved p v (action.DeclareBool name c) = IsNameIndex p name × ConditionIsResolved p v c
-  ActionIsResolved p v (action.SetInt slot e) = IsIntVariable p v slot × IntegerIsResolved p v e
-  ActionIsResolved p v (action.SetBool slot c) = IsCondition p v slot × ConditionIsResolved p v c
-  ActionIsResolved p v (action.ReduceInt slot by e) = IsIntVariable p v slot × IntegerIsResolved p v e
-  ActionIsResolved p v (action.SetEntry vector index e) = IsVectorIndex p vector × IntegerIsResolved p v index × IntegerIsResolved p v e
-  ActionIsResolved p v (action.ReduceEntry vector index by e) = IsVectorIndex p vector × IntegerIsResolved p v index × IntegerIsResolved p v e
-  ActionIsResolved p v (action.DeclareSet name value) = IsNameIndex p name × SetIsResolved p v value
-  ActionIsResolved p v (action.AssignSet slot value) = IsSetVariable p v slot × SetIsResolved p v value
-  ActionIsResolved p v (action.AddVertex slot e) = IsSetVariable p v slot × IntegerIsResolved p v e
-  ActionIsResolved p v (action.PrintInt e) = IntegerIsResolved p v e
-  ActionIsResolved p v (action.PrintBool c) = ConditionIsResolved p v c
-  ActionIsResolved p v (action.ApplyVertex slot function) = IsSetVariable p v slot × IsVertexFunction p function
-  ActionIsResolved p v (action.ApplyEdges ends function) = EndsAreResolved p v ends × IsEdgeFunction p function
+  ActionIsResolved p v (action.Simple a) = SimpleActionIsResolved p v a
   ActionIsResolved p v (action.If c body) = ConditionIsResolved p v c × BlockIsResolved p v body
   ActionIsResolved p v (action.IfElse c body other) = ConditionIsResolved p v c × BlockIsResolved p v body × BlockIsResolved p v other
   ActionIsResolved p v (action.While c body) = ConditionIsResolved p v c × BlockIsResolved p v body

@@ -7,7 +7,7 @@ use Rattle.syntax.specs.declared.declaration.DeclaredType.TheVariants as declare
 use Rattle.apply_options.specs.declared.reduction.Reduction.{Reduction}
 use Rattle.typed_tree.specs.declared.expression.VarRef.{VarRef}
 use Rattle.typed_tree.specs.IntExpressionTree.{IntExpressionTree, Parameter}
-use Rattle.typed_tree.specs.BlockTree.{StatementKindTree, DeclareInt, DeclareBool, SetInt, SetBool, ReduceInt, SetEntry, ReduceEntry}
+use Rattle.typed_tree.specs.BlockTree.{StatementKindTree, Simple, DeclareInt, DeclareBool, SetInt, SetBool, ReduceInt, SetEntry, ReduceEntry}
 use Rattle.typed_tree.specs.BlockTree.{DeclareSet, AssignSet, AddVertex, PrintInt, PrintBool, ApplyVertex, ApplyEdges}
 use Rattle.expression_types.specs.declared.fault.TypeRule.TheVariants as rule
 use Rattle.expression_types.specs.declared.scope.Entity.{Entity}
@@ -22,18 +22,18 @@ use Rattle.initializer_types.specs.Initial.{lacks_weights, edge_function, vertex
 
 -- what is in place of a faulty statement
 abbrev pub no_action : StatementKindTree
-no_action = PrintInt some_integer
+no_action = Simple (PrintInt some_integer)
 
 -- A declaration of a variable, and what is known after it. The name is not visible in its first value.
 abbrev pub declare_as : CheckerTree → ℕ → Identifier → InitializerTree → DeclaredType → WithFaults (StatementKindTree × CheckerTree)
 declare_as c at name initializer declared.Int =
     initializer_integer at initializer >>= λ e. declared_in c name (entity.IntVariable (integer_slot c)) >>= λ d. sure
-    (DeclareInt (length c.names) e, d)
+    (Simple (DeclareInt (length c.names) e), d)
 declare_as c at name initializer declared.Bool =
     initializer_condition at initializer >>= λ e. declared_in c name (entity.BoolVariable (condition_slot c)) >>= λ d. sure
-    (DeclareBool (length c.names) e, d)
+    (Simple (DeclareBool (length c.names) e), d)
 declare_as c at name initializer declared.VertexSet =
-    initializer_members at initializer >>= λ s. declared_in c name (entity.SetVariable (set_slot c)) >>= λ d. sure (DeclareSet (length c.names) s, d)
+    initializer_members at initializer >>= λ s. declared_in c name (entity.SetVariable (set_slot c)) >>= λ d. sure (Simple (DeclareSet (length c.names) s), d)
 declare_as c at name initializer declared.Vertex = fault_at at rule.WrongType no_action >>= λ a. declared_in c name entity.Error >>= λ d. sure (a, d)
 declare_as c at name initializer declared.Vector = fault_at at rule.WrongType no_action >>= λ a. declared_in c name entity.Error >>= λ d. sure (a, d)
 declare_as c at name initializer declared.EdgeSet = fault_at at rule.WrongType no_action >>= λ a. declared_in c name entity.Error >>= λ d. sure (a, d)
@@ -49,9 +49,9 @@ assigned at initializer (entity.Vector index) = fault_at at rule.WrongType no_ac
 assigned at initializer (entity.ConstantSet slot) = fault_at at rule.WrongType no_action
 assigned at initializer (entity.IntConstant name n) = fault_at at rule.WrongType no_action
 assigned at initializer (entity.BoolConstant name b) = fault_at at rule.WrongType no_action
-assigned at initializer (entity.IntVariable slot) = initializer_integer at initializer >>= λ e. sure (SetInt slot e)
-assigned at initializer (entity.BoolVariable slot) = initializer_condition at initializer >>= λ e. sure (SetBool slot e)
-assigned at initializer (entity.SetVariable slot) = initializer_members at initializer >>= λ s. sure (AssignSet slot s)
+assigned at initializer (entity.IntVariable slot) = initializer_integer at initializer >>= λ e. sure (Simple (SetInt slot e))
+assigned at initializer (entity.BoolVariable slot) = initializer_condition at initializer >>= λ e. sure (Simple (SetBool slot e))
+assigned at initializer (entity.SetVariable slot) = initializer_members at initializer >>= λ s. sure (Simple (AssignSet slot s))
 assigned at initializer (entity.LoopVariable slot) = fault_at at rule.WrongType no_action
 assigned at initializer (entity.Parameter p) = fault_at at rule.WrongType no_action
 assigned at initializer entity.Weight = fault_at at rule.WrongType no_action
@@ -71,7 +71,7 @@ reduced at by v (entity.Vector index) = fault_at at rule.WrongType no_action
 reduced at by v (entity.ConstantSet slot) = fault_at at rule.WrongType no_action
 reduced at by v (entity.IntConstant name n) = fault_at at rule.WrongType no_action
 reduced at by v (entity.BoolConstant name b) = fault_at at rule.WrongType no_action
-reduced at by v (entity.IntVariable slot) = integer_wanted at v >>= λ e. sure (ReduceInt slot by e)
+reduced at by v (entity.IntVariable slot) = integer_wanted at v >>= λ e. sure (Simple (ReduceInt slot by e))
 reduced at by v (entity.BoolVariable slot) = fault_at at rule.WrongType no_action
 reduced at by v (entity.SetVariable slot) = fault_at at rule.WrongType no_action
 reduced at by v (entity.LoopVariable slot) = fault_at at rule.WrongType no_action
@@ -90,7 +90,7 @@ reduce scope at name by e = used_name scope name >>= λ n. value_of scope at e >
 abbrev pub entry_set : Option ℕ → Option IntExpressionTree → IntExpressionTree → StatementKindTree
 entry_set None index e = no_action
 entry_set (Some vector) None e = no_action
-entry_set (Some vector) (Some index) e = SetEntry vector index e
+entry_set (Some vector) (Some index) e = Simple (SetEntry vector index e)
 
 abbrev pub set_entry : ScopeTree → ℕ → Identifier → (index e : ExpressionTree) → WithFaults StatementKindTree
 set_entry scope at name index e =
@@ -100,7 +100,7 @@ set_entry scope at name index e =
 abbrev pub entry_reduced : Option ℕ → Option IntExpressionTree → Reduction → IntExpressionTree → StatementKindTree
 entry_reduced None index by e = no_action
 entry_reduced (Some vector) None by e = no_action
-entry_reduced (Some vector) (Some index) by e = ReduceEntry vector index by e
+entry_reduced (Some vector) (Some index) by e = Simple (ReduceEntry vector index by e)
 
 abbrev pub reduce_entry : ScopeTree → ℕ → Identifier → (index : ExpressionTree) → Reduction → (e : ExpressionTree) → WithFaults StatementKindTree
 reduce_entry scope at name index by e =
@@ -116,7 +116,7 @@ added_to_set at v (entity.IntConstant name n) = fault_at at rule.WrongType no_ac
 added_to_set at v (entity.BoolConstant name b) = fault_at at rule.WrongType no_action
 added_to_set at v (entity.IntVariable slot) = fault_at at rule.WrongType no_action
 added_to_set at v (entity.BoolVariable slot) = fault_at at rule.WrongType no_action
-added_to_set at v (entity.SetVariable slot) = integer_wanted at v >>= λ e. sure (AddVertex slot e)
+added_to_set at v (entity.SetVariable slot) = integer_wanted at v >>= λ e. sure (Simple (AddVertex slot e))
 added_to_set at v (entity.LoopVariable slot) = fault_at at rule.WrongType no_action
 added_to_set at v (entity.Parameter p) = fault_at at rule.WrongType no_action
 added_to_set at v entity.Weight = fault_at at rule.WrongType no_action
@@ -131,9 +131,9 @@ add_vertex scope at set e = used_name scope set >>= λ s. value_of scope at e >>
 
 -- a number or a truth value is printed
 abbrev pub printed : ℕ → ValueTree → WithFaults StatementKindTree
-printed at (Integer e) = sure (PrintInt e)
-printed at (Condition c) = sure (PrintBool c)
-printed at (Vertex p) = sure (PrintInt (Parameter p))
+printed at (Integer e) = sure (Simple (PrintInt e))
+printed at (Condition c) = sure (Simple (PrintBool c))
+printed at (Vertex p) = sure (Simple (PrintInt (Parameter p)))
 printed at (Set slot) = fault_at at rule.WrongType no_action
 printed at ErrorValue = sure no_action
 
@@ -144,11 +144,11 @@ print scope at e = value_of scope at e >>= printed at
 -- further rule.
 abbrev pub edges_applied : ℕ → ApplyEndTree → ApplyEndTree → Bool → Option ℕ → WithFaults StatementKindTree
 edges_applied at a b error None = if error then sure no_action else fault_at at rule.WrongType no_action
-edges_applied at a b error (Some function) = if is_error_end a || is_error_end b then sure no_action else sure (ApplyEdges (ends_given a b) function)
+edges_applied at a b error (Some function) = if is_error_end a || is_error_end b then sure no_action else sure (Simple (ApplyEdges (ends_given a b) function))
 
 abbrev pub vertices_applied : ℕ → VarRef → Bool → Option ℕ → WithFaults StatementKindTree
 vertices_applied at slot error None = if error then sure no_action else fault_at at rule.WrongType no_action
-vertices_applied at slot error (Some function) = sure (ApplyVertex slot function)
+vertices_applied at slot error (Some function) = sure (Simple (ApplyVertex slot function))
 
 abbrev pub set_applied : ℕ → Bool → Entity → Option VarRef → WithFaults StatementKindTree
 set_applied at ends f None = fault_at at rule.WrongType no_action

@@ -2,7 +2,7 @@
 ghost use Rattle.std.specs.Prelude.{◌≡◌, Some};
 ghost use Rattle.std.specs.Option.{option_map};
 ghost use Rattle.syntax.specs.SourceViews.{ends_tree};
-ghost use Rattle.typed_tree.specs.BlockTree.{block_tree, statement_kind_tree, value_statement_tree};
+ghost use Rattle.typed_tree.specs.BlockTree.{Simple, block_tree, statement_kind_tree, value_statement_tree};
 ghost use Rattle.typed_tree.specs.IntExpressionTree.{int_expression_tree};
 ghost use Rattle.expression_types.specs.Faults.{earlier, outcome};
 ghost use Rattle.expression_types.specs.ValueTree.{value_tree};
@@ -250,7 +250,7 @@ impl BlockKind for MainBlock {
 
 /// A statement that takes a value.
 fn of_value(statement: ValueStatement) -> StatementKind
-    ensures { statement_kind_tree result ≡ value_statement_tree statement }
+    ensures { statement_kind_tree result ≡ Simple (value_statement_tree statement) }
 {
     StatementKind::Simple(SimpleStatement::Value(statement))
 }

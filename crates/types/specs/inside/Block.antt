@@ -3,7 +3,7 @@ use Rattle.std.proofs.Common.{◌≡◌, refl, ap, sym, ℕ, List, [], ◌∷◌
 use Rattle.syntax.specs.Terminals.{Identifier}
 use Rattle.syntax.specs.declared.declaration.DeclaredType.{DeclaredType}
 use Rattle.syntax.specs.declared.declaration.DeclaredType.TheVariants as declared
-use Rattle.typed_tree.specs.BlockTree.{BlockTree, StatementKindTree, DeclareInt, DeclareBool, DeclareSet, Then, block_tree, statement_kind_tree}
+use Rattle.typed_tree.specs.BlockTree.{BlockTree, StatementKindTree, Simple, DeclareInt, DeclareBool, DeclareSet, Then, block_tree, statement_kind_tree}
 use Rattle.typed_tree.specs.BlockTree as typed
 use Rattle.typed_tree.specs.declared.statement.MainStatement.{MainStatement}
 use Rattle.typed_tree.specs.declared.statement.StatementKind.{StatementKind}
@@ -59,11 +59,12 @@ pushed (x ∷ xs) s = ap (Then x.number x.label (statement_kind_tree x.action)) 
 declared_so : (c : CheckerTree) (at : ℕ) (name : Identifier) (i : InitializerTree) (type : DeclaredType)
     → declare_as c at name i type ≡ (variable_as c at i type >>= visible_then c name)
 declared_so c at name i declared.Int =
-    sym (bind-bind (initializer_integer at i) (λ e. sure (entity.IntVariable (integer_slot c), DeclareInt (length c.names) e)) (visible_then c name))
+    sym (bind-bind (initializer_integer at i) (λ e. sure (entity.IntVariable (integer_slot c), Simple (DeclareInt (length c.names) e))) (visible_then c name))
 declared_so c at name i declared.Bool =
-    sym (bind-bind (initializer_condition at i) (λ e. sure (entity.BoolVariable (condition_slot c), DeclareBool (length c.names) e)) (visible_then c name))
+    sym (bind-bind (initializer_condition at i) (λ e. sure (entity.BoolVariable (condition_slot c), Simple (DeclareBool (length c.names) e)))
+    (visible_then c name))
 declared_so c at name i declared.VertexSet =
-    sym (bind-bind (initializer_members at i) (λ s. sure (entity.SetVariable (set_slot c), DeclareSet (length c.names) s)) (visible_then c name))
+    sym (bind-bind (initializer_members at i) (λ s. sure (entity.SetVariable (set_slot c), Simple (DeclareSet (length c.names) s))) (visible_then c name))
 declared_so c at name i declared.Vertex = refl
 declared_so c at name i declared.Vector = refl
 declared_so c at name i declared.EdgeSet = refl

@@ -2,7 +2,7 @@
 use Rattle.std.specs.Prelude.{ℕ, length}
 use Rattle.syntax.specs.declared.declaration.DeclaredType.{DeclaredType}
 use Rattle.syntax.specs.declared.declaration.DeclaredType.TheVariants as declared
-use Rattle.typed_tree.specs.BlockTree.{StatementKindTree, DeclareInt, DeclareBool, DeclareSet}
+use Rattle.typed_tree.specs.BlockTree.{StatementKindTree, Simple, DeclareInt, DeclareBool, DeclareSet}
 use Rattle.typed_tree.specs.FunctionStatementTree as step
 use Rattle.typed_tree.specs.FunctionStatementTree.{FunctionStatementTree}
 use Rattle.expression_types.specs.declared.fault.TypeRule.TheVariants as rule
@@ -17,11 +17,11 @@ use Rattle.types.specs.Step.{no_step}
 -- in main
 abbrev pub variable_as : CheckerTree → ℕ → InitializerTree → DeclaredType → WithFaults (Entity × StatementKindTree)
 variable_as c at initializer declared.Int = initializer_integer at initializer >>= λ e. sure
-    (entity.IntVariable (integer_slot c), DeclareInt (length c.names) e)
+    (entity.IntVariable (integer_slot c), Simple (DeclareInt (length c.names) e))
 variable_as c at initializer declared.Bool = initializer_condition at initializer >>= λ e. sure
-    (entity.BoolVariable (condition_slot c), DeclareBool (length c.names) e)
+    (entity.BoolVariable (condition_slot c), Simple (DeclareBool (length c.names) e))
 variable_as c at initializer declared.VertexSet = initializer_members at initializer >>= λ s. sure
-    (entity.SetVariable (set_slot c), DeclareSet (length c.names) s)
+    (entity.SetVariable (set_slot c), Simple (DeclareSet (length c.names) s))
 variable_as c at initializer declared.Vertex = fault_at at rule.WrongType (entity.Error, no_action)
 variable_as c at initializer declared.Vector = fault_at at rule.WrongType (entity.Error, no_action)
 variable_as c at initializer declared.EdgeSet = fault_at at rule.WrongType (entity.Error, no_action)

@@ -16,7 +16,6 @@ use Rattle.lowering.specs.inside.Putting.{BeginsLoop, Fills, Puts}
 use Rattle.lowering.specs.inside.Visible.{depth_of}
 use Rattle.lowering.proofs.Measures.{action_size, block_size, inner_falls}
 use Rattle.lowering.proofs.Putting.{puts_nothing}
-use Rattle.lowering.proofs.SimpleStatements.{simple_plan}
 use Rattle.lowering.proofs.Statements.{HasPut, after_none, has_put_all, has_put_next, has_put_none, puts_if, puts_apply_schedule, puts_while, puts_for}
 use Rattle.lowering.proofs.blocks.Lowering.+lower.Goals as goal
 
@@ -63,7 +62,7 @@ put_statement-returns-in_ok-put_simple-in-Simple-clause-code t c =
     let n = c.args.statement.now.number in
     let label = c.args.statement.now.label in
     let simple = c.in-Simple.simple in
-    let steps = ap (λ k. plan p s (length a) d n label k) (ap statement_kind_tree c.in-Simple.is) ∙ simple_plan p s (length a) d n label simple in
+    let steps = ap (λ k. plan p s (length a) d n label k) (ap statement_kind_tree c.in-Simple.is) in
     let put = subst (λ x. Puts p a b (chosen s n label x (Do (simple_statement_tree simple)) ∷ [])) c.depth.ensures c.in_ok-put_simple-in-Simple.ensures in
     on_ok_weaker c.declare_simple.result (λ declared. subst (λ xs. Puts p a b xs) (sym steps) put) c.declare_simple.ensures
 
