@@ -1,7 +1,7 @@
 //! What the benchmark programs share: random numbers and graphs, the same on every machine, times of work that is done
 //! again and again, tables, sums over tails, and the words of a command line.
 //!
-//! It promises to be safe and to end, and no more; only programs that measure depend on it.
+//! It promises to be safe and to end, and no more. Benchmarks and three crates of tests depend on it.
 #![tactic(auto)]
 
 mod arguments;

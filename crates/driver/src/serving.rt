@@ -38,11 +38,10 @@ const OK_LINE: &[u8] = b"ok\n";
 ///
 /// `Check` and `Plan` write once the program is compiled. `Script` and `Race` compile each program before they read the next
 /// file, and read the script's file last; a script of the name `-` is `input`, whose lines are answered as they come. The
-/// status is 1 where a program's text is refused, or where the script is none of a
-/// race, or its graph is refused; the file, `refused`, the number and the place of the fault are then written to `err`, if
-/// that is known, and for a program's text the source line, what the number means and what to do; `out` took nothing. It is 4
-/// if memory runs out, or a run of a race finds nothing published, and 5
-/// where a file or `input` cannot be read or `out` fails; `refused` and the number are then written to `err`, and `out` took a
+/// status is 1 if a program's text, the script of a race or the graph of a race is refused. Then `err` has the file,
+/// `refused`, the number and the place if it is known; for a program's text it also has the source line, the meaning of the
+/// number and the cure. `out` took nothing. It is 4 if memory runs out, or a run of a race finds nothing published, and 5 if a
+/// file or `input` cannot be read or `out` fails; `refused` and the number are then written to `err`, and `out` took a
 /// beginning of that line or text or of the replies. A race writes nothing before all is run.
 pub fn serve<T: Threads + Wait + Sync, F: Files, R: Feed, W: Drain, E: Drain>(
     rt: &T,

@@ -1,10 +1,9 @@
-//! What both engines use: an apply of edge functions to the edges between two ends, and what is asked of whoever does it.
+//! The common parts of both engines: an apply of edge functions to the edges between two ends, and its contract.
 //!
-//! [`Apply`] is what an apply is given. `AreChangesOf` says, in the words of `algorithm_meaning` (`after_edges`), what it
-//! changes: the engines promise it, whichever way they go over the edges. What they share stands here: all vertices in a
-//! list, those with edges in parts, the vertices that an end lets through as bits, a block's vertices tested by bits, alone
-//! or with their weights, what pieces have found put together, by one worker or by several, each for its own ranges of
-//! vertices, and the set of the vertices that an apply has changed.
+//! [`Apply`] has the parameters of an apply. `AreChangesOf` says, in the words of `algorithm_meaning` (`after_edges`), what it
+//! changes: both engines promise it. Both engines use: all vertices in a list, those with edges in parts, the vertices that an
+//! end lets through as bits, a block's vertices tested by bits, alone or with their weights, the results of pieces merged by
+//! one worker or by several, each for its own ranges of vertices, and the set of the vertices that an apply has changed.
 #![tactic(auto)]
 
 mod appended;

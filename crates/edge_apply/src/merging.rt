@@ -55,9 +55,9 @@ impl<'a> Work for RangeMerge<'a> {
     }
 }
 
-/// What an apply changes by the edges of which pieces have gathered what they give, where the numbers that they gave stand
-/// by ascending vertices: so many workers put them together, of whom the caller is worker 1, four ranges of vertices for
-/// each. The scratches of workers are taken from `states`, and are there again after it.
+/// The changes of an apply, merged from the results of its pieces by n workers; the caller is worker 1. The vertices are cut
+/// into four ranges for each worker. The numbers of each result are by ascending vertices. The scratches of workers are taken
+/// from `states`, and are put back.
 ///
 /// The only error is out of memory.
 pub fn merge_by_ranges<R: Threads + Sync>(

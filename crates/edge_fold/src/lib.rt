@@ -8,8 +8,8 @@
 //! If a function reads weights ([`reads_weights`]), an engine lends them too, to [`Scratch::fold_weighted`] and
 //! [`Scratch::fold_into_weighted`]. If none does, what is given does not depend on weights: no weight is lent, kept or
 //! read, and what is promised holds for edges with any weights.
-//! What is an entry of the source with the weight, as `dist[src] + weight`, does not wait: a row joins its numbers to the
-//! destinations in one loop, and a column is first reduced to one number ([`reduce_entries`], [`EntryWith`]).
+//! A contribution made of the source's entry and the weight, such as `dist[src] + weight`, is not collected in blocks: a row
+//! joins its numbers to the destinations in one loop, and a column is first reduced to one number ([`reduce_entries`], [`EntryWith`]).
 //!
 //! A worker that does a piece of an apply lets new entries begin with the unit of the reduction ([`FoldStart`]).
 //! [`Scratch::gathered`] then says what its edges give, as numbers for vertices, and [`Scratch::join_gathered`] joins that

@@ -1,5 +1,5 @@
-//! Laws of meanings: what `algorithm_meaning`, which defines the meaning of a program step by step, means in the words
-//! of the language.
+//! Laws of meanings, in the words of the language. `algorithm_meaning` defines the meaning of a program step by step; these
+//! laws state the result.
 //!
 //! The calls do nothing: each is a fact that is proved of every program, graph and state. The set that `applyModified`
 //! gives has exactly the vertices whose entry differs (`modified_sets_have_the_changed_vertices`), and a filtered one

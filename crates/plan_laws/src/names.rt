@@ -17,8 +17,8 @@ pub fn words_say_the_reduction()
     ensures { (p : ProgramTree) (i : InstructionTree) → reduction_named (instruction_words p i) ≡ reduction_of i.operation }
 {}
 
-/// The law that the words of an edge apply name its ends, where they are given, its function, a second one that is fused with
-/// it, and of each the set that gets the vertices where a vector changed, and that vector. The call does nothing.
+/// The law that the words of an edge apply name its ends if it has some, its function, a second function that is fused with
+/// it, and for each function the set of changed vertices and the vector. The call does nothing.
 pub fn words_name_edge_applies()
     ensures { (p : ProgramTree) (i : InstructionTree) → HasNoMarks p → edges_in (instruction_words p i) ≡ edges_of p i.operation }
 {}

@@ -14,8 +14,8 @@
 //! a plan go, `specs/Fused.antt` what holds of two applies that are done together, and `specs/Examples.antt` has plans whole.
 //! `specs/Reducing.antt` says what an engine needs of edge applies: each vector gets numbers by one reduction.
 //!
-//! The crate has no code that computes: its types and definitions are for the lowering, which makes plans, and for the
-//! runner, which runs them. The simulation in the proofs goes by the tree, as that of a compiler to a machine with jumps
+//! The crate has the types of plans, their definitions, and the kernels of functions. `lowering` makes plans, `runner` runs
+//! them. The simulation in the proofs goes by the tree, as that of a compiler to a machine with jumps
 //! (Leroy, "Formal verification of a realistic compiler", CACM 2009).
 #![tactic(auto)]
 

@@ -19,15 +19,15 @@ use std::alloc::{AllocError, Global};
 use vectors::Changes;
 use vertex_sets::VertexSet;
 
-/// What an apply of edge functions changes, where it goes from the sources to the destinations: for each vector that a
+/// What an apply of edge functions changes, by a push from the sources to the destinations: for each vector that a
 /// function has given something one list of changes, by ascending vertices, and a vector without one does not change.
 /// It promises so for each vector that has an entry for each vertex and to which the functions give by one reduction.
 /// The vectors stay as they are, and so does the graph. The scratch serves any apply after this one,
 /// whatever became of it.
 ///
-/// Where more than one edge for each 8 vertices comes from the sources, or the set of the destinations is kept as bits,
-/// an edge is left out as it comes where its destination does not pass; a filter is then run for each vertex, once. Else
-/// destinations are tested at the end, those alone that were given something.
+/// If the sources have more than one edge for each 8 vertices, or the destinations are a set that is kept as bits, each edge
+/// is tested first. A filter is then run once for each vertex. Otherwise destinations are tested at the end, those alone that
+/// were given something.
 ///
 /// The only error is out of memory.
 pub fn push(alloc: Global, apply: &Apply<'_>, scratch: &mut Scratch) -> Result<Changes, AllocError>

@@ -49,7 +49,7 @@ pub record IsRunOn (n : ℕ) (plan : Plan) (turns : ℕ) (history : List Entry) 
   pub number : run.version ≡ length (batches_of history)
   pub outcome : IsOutcomeOn plan (fold_of n history) turns run.outcome
 
--- a program ran on the newest version of a history, and again on that of one that begins with this history and with what was announced
+-- a program ran on the newest version of a history, and again on that of a longer history, which begins with the announced one too
 pub record RanTwice (n room : ℕ) (plan : Plan) (turns : ℕ) (told : List Entry) (runs : ProgramRuns) : Type 0 where
   pub before : List Entry
   pub after : List Entry

@@ -1,5 +1,5 @@
-//! What is said of a refusal of a program's text after its first line: the place, with the source line and a caret, what the number
-//! means, and what to do; and what is said of the refused lines of a script.
+//! The lines for people after the refusal of a program's text: the place, the source line with a caret, the meaning of the number,
+//! and the cure; and the causes of refused lines of a script.
 //!
 //! [`place_of`] is the line and the column of an offset, and its contract says so. [`explanation`] makes the lines on a text. It
 //! answers for any text, offset and number, and promises nothing of its words but that they come: they are for people, and may be

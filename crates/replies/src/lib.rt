@@ -3,10 +3,10 @@
 //! A reply of one line is a [`LineReply`]; a list of edges and the outcome of a run are replies of several
 //! lines. Their texts are definitions apart from the code (`specs/ReplyText.antt`). A
 //! [`ReplyWriter`] keeps texts in a block of 64 KiB and writes the block when it is full or when it is flushed.
-//! Each call that sends is proved to take its whole text, after all that was sent before, and where it fails a
+//! Each call that sends is proved to take its whole text, after all that was sent before, and if it fails a
 //! beginning of that (`specs/Sending.antt`).
 //!
-//! The crate of scripts depends on it.
+//! `scripts`, `races` and `driver` depend on it.
 #![tactic(auto)]
 
 mod line_reply;

@@ -45,7 +45,7 @@ opened d vectors sets turns = record {
   turns = turns;
 }
 
--- the groups of vectors are those that were asked for where these fit the vectors; where they are others, there are none
+-- if the requested groups fit the vectors, the groups are these; otherwise there are none
 pub record AreGroups (vectors : List (List ℤ)) (asked groups : List (List ℕ)) : Type 0 where
   pub fit : IsGrouping vectors asked → groups ≡ asked
   pub others : (groups ≡ asked → ⊥) → groups ≡ []

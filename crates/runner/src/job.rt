@@ -27,8 +27,8 @@ pub enum Stand {
 }
 
 /// A run of a plan on a snapshot of a graph, which does one instruction with each call. It may be kept, and sent to
-/// another thread. A contract sees the plan, the graph, the bound of turns, and where the run stands without what the next
-/// instruction does not see (`specs/Resting.antt`). Its vectors are in the groups of the plan, where these fit.
+/// another thread. A contract sees the plan, the graph, the bound of turns and the configuration, without the variables and
+/// sets that the next instruction does not see (`specs/Resting.antt`). Its vectors are in the groups of the plan, where these fit.
 pub struct Job {
     plan: Arc<Plan>,
     graph: Arc<Flat>,

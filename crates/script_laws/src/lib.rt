@@ -1,5 +1,5 @@
-//! Laws of scripts: what the readers of lines and the writers of replies, which `scripts`, `replies` and `decimal` define as
-//! they go, come to in the words of a user.
+//! Laws of scripts, in the words of a user. `scripts`, `replies` and `decimal` define the reading of lines and the writing of
+//! replies step by step; these laws state the result.
 //!
 //! The calls do nothing: each is a fact that is proved of every line, number and command. A word is a number exactly where it
 //! is its decimal digits after any zeros (`numbers_are_their_digits`). Words are read as a command exactly where they

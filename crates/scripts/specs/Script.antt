@@ -49,7 +49,7 @@ pub record RepliesToEnded (programs : List ProgramTree) (old new : Input) (befor
 abbrev pub IsBeginning : List ℕ → List ℕ → Type 0
 IsBeginning written whole = (rest : List ℕ) × (written ++ rest ≡ whole)
 
--- what was written is a beginning of the replies to the bytes read, however they would have gone on; after the end of the reader they would not
+-- the written bytes are a beginning of the replies to the bytes read and to any bytes that may follow; after the end of the reader none follow
 pub record RepliesInPart (programs : List ProgramTree) (old new : Input) (before after : Written) : Type 0 where
   pub bytes : List ℕ
   pub bytes_read : new.bytes_read ≡ old.bytes_read ++ bytes

@@ -10,10 +10,10 @@ ghost use Rattle.session.specs.World.{ScheduledProgram, WorldJob, World, nth_fro
 ghost use Rattle.session.specs.Standing.{SessionValue, StandsAt, IsAt};
 ghost use Rattle.session.specs.Laws.{is_step_of, GoesOnAlone, RunsAlone, ShowsItsOwnRun, MayChangePlaces, committed_batches, HasFolds, HasPrograms};
 
-/// A job goes by its own steps alone. Whatever steps are taken, it keeps its program, its graph and its bound of turns, and
-/// is where its program's machine is on that graph after as many instructions more as there are steps of this job:
-/// no commit, hold, release, start or step of another job changes that. So it is in the world, and in a session that stands
-/// where the world stands.
+/// The state of a job depends on its own steps alone. Whatever steps are taken, it keeps its program, its graph and its bound
+/// of turns, and has the configuration of its program's machine on that graph after as many instructions more as there are
+/// steps of this job: no commit, hold, release, start or step of another job changes that. This holds in the world, and in a
+/// session whose state is the world's.
 pub fn jobs_go_by_their_own_steps()
     ensures world { (programs : List ScheduledProgram) (w : World) (steps : List SessionStep) (number : ℕ) (job : WorldJob)
         → nth_from_one w.jobs number ≡ Some job

@@ -8,10 +8,10 @@
 //! A contract sees a reader as what it shows: a history of accepted steps, each with its reply and
 //! the reader that made it, which only grows at its end (`specs/Histories.antt`). After a step the
 //! history shown ends in that step; a refusal is the version machine's at the end of the history
-//! shown; a snapshot has the fold of its batches. What one reader showed another takes in by a
-//! [`Token`]. A contract sees what lies under the lock as the history, of which the versions are the
-//! replay, and which is the one that was published. The versions have its entries since the last trim
-//! alone: a trim drops those before it there, and in no history that a reader shows.
+//! shown; a snapshot has the fold of its batches. A [`Token`] carries the history that one reader showed;
+//! another reader learns it. In contracts the state under the lock is a history. It is the published one,
+//! and the versions are its replay. A trim drops entries of the versions, and none of a history that a
+//! reader shows.
 //!
 //! The history itself is in the proofs alone (`logbook`): threads share its length, one word, and
 //! each reader has a beginning of it. The newest version is published in two copies, of which readers

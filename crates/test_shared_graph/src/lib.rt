@@ -1,5 +1,5 @@
-//! Tests of shared graphs on threads: what no contract says of two passes that told each other nothing, of chunk sizes, and of
-//! calls after a refusal; and calls that memory may run out for.
+//! Tests of shared graphs on threads, of facts that no contract states: two readers between which no token passed, chunk sizes,
+//! and calls after a refusal; and calls that memory may run out for.
 //!
 //! All tests but `writers.rt` are tables of calls with their answers (`tables.rt`, `since.rt`, `beside.rt`,
 //! `memory.rt` and `refused_growths.rt`), which `calls.rt` makes on a graph that it opens.

@@ -1,5 +1,5 @@
-//! Laws of types: what the program and the faults of a source, which `types` defines as its checker proceeds, are in the
-//! words of the language.
+//! Laws of types, in the words of the language. `types` defines the program and the faults of a source step by step; these
+//! laws state what that means.
 //!
 //! The calls do nothing: each is a fact that is proved of every source. A source has a program or a reported fault,
 //! never both (`sources_have_a_program_or_a_fault`), and the reported fault is the least of its faults

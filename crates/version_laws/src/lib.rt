@@ -1,4 +1,4 @@
-//! Laws of versions: what histories, which `version_list` defines as its machine goes, come to in the words of a user.
+//! Laws of versions, in the words of a user. `version_list` defines histories step by step; these laws state the result.
 //!
 //! The calls do nothing: each is a fact that is proved of every history that is legal from an opening. Version k is
 //! the graph after the batches of the first k commits (`versions_are_made_by_commits`), and has that graph for good

@@ -8,7 +8,7 @@
 //! [`VersionRecords::predecessor`] gives the record that a run follows, and the edges in which the two graphs may differ.
 //! [`VersionRecords::keep`] takes the record that the run has made. Which records are kept decides only how fast later runs are.
 //!
-//! The crate of scripts depends on it.
+//! `session`, `scripts` and `driver` depend on it.
 #![tactic(auto)]
 
 mod version_records;
