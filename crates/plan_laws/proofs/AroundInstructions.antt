@@ -76,7 +76,11 @@ module _ (p : ProgramTree) (s : ScheduleTree) where
 
     action_entry : (a : StatementKindTree) (index number : ℕ) (label : Option ℕ) (d : Depth) (is : List ℕ) → HasAt code index (plan p s index d number label a) → HasRows table index (around d is a)
         → Entry code table index is d.integers
-    action_entry _ index number label d is at rows = first_entry index is d _ at.0 rows.0 refl
+    action_entry (Simple a) index number label d is at rows = first_entry index is d _ at.0 rows.0 refl
+    action_entry (If c body) index number label d is at rows = first_entry index is d _ at.0 rows.0 refl
+    action_entry (IfElse c body other) index number label d is at rows = first_entry index is d _ at.0 rows.0 refl
+    action_entry (While c body) index number label d is at rows = first_entry index is d _ at.0 rows.0 refl
+    action_entry (For name first end body) index number label d is at rows = first_entry index is d _ at.0 rows.0 refl
 
     company_entry : (company : FusionRole) (action : StatementKindTree) (rest : BlockTree) (index number : ℕ) (label : Option ℕ) (d : Depth) (is : List ℕ) (own : List InstructionTree)
         (own_rows : List (List ℕ)) (n : ℕ)
