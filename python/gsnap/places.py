@@ -19,7 +19,7 @@ CAUSES = [
     (r"[0-9]\Z", r"\.", "there are no fractions: count in hundredths or millionths"),
     (r"", r"[-*/%]\s*=", "there is no such statement but `+=`: write `x += -1;` or `x = x * 2;`"),
     (r"", r"\+=|min=|max=", "a reduction is a statement, `x += 1;` or `x[v] += 1;`, and no part of an expression"),
-    (r"\.\s*to\s*\([^()]*\)\s*\.\s*\Z", r"from\b", "`from` stands before `to`"),
+    (r"\.\s*to\s*\([^()]*\)\s*\.\s*\Z", r"from\b", "`from` comes before `to`"),
     (r"\.\s*\Z", r"applyModified\b", "its set has to go somewhere: `s = edges.applyModified(f, x);`, or take `apply`"),
     (r"\bfor\s+\w+\s+in\s+[^:;]*\Z", r"", "a `for` has two bounds: `for i in 0:10` goes from 0 to 9"),
     (r"[\w\])]\s*\n\s*\Z", r"", "a `;` may be missing at the end of the line before"),
@@ -76,7 +76,7 @@ def meaning(number: int, cure: str | None = None) -> list[str]:
 def refusal_text(name: str, text: str | bytes, number: int, offset: int, told: Sequence[str] = ()) -> str:
     """Returns lines that explain the refusal of a program: its place, what the number means, and what to do.
 
-    `told` is what gsnap said after the place, a line each; if it is empty, the table and a guess stand in its place.
+    `told` are the lines of gsnap after the place. If there are none, the meaning is that of the table, and the cause is a guess.
     """
     if told:
         meant = [f" = {number}: {told[0]}", *(f" = {it}" for it in told[1:])]

@@ -87,7 +87,7 @@ class Session:
     def of_script(cls, journal: Journal, commands: list[bytes], pending: int, name: str) -> Session:
         """Does a script, whose lines that neither add nor take away an edge are `commands`, and continues from there.
 
-        So many edits stand behind its last commit as `pending` says.
+        `pending` is the number of edits after its last commit.
 
         Raises Mistake if a line is refused, or if one runs a program or lists edges.
         """
@@ -133,7 +133,7 @@ class Session:
     def _take_end(self, replies: Iterator[Reply], name: str) -> None:
         """Looks that a script opened a graph, and that no line was refused besides."""
         for it in replies:
-            raise Mistake(f"{name}: a line behind the last commit is answered by {it}")
+            raise Mistake(f"{name}: a line after the last commit is answered by {it}")
         if not self.vertices:
             raise Mistake(f"{name}: the script opens no graph: its first line is `vertices N`")
 

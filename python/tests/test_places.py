@@ -42,29 +42,64 @@ def test_shown(text: str | bytes, offset: int, place: str, line: str, caret: str
     assert len({it.index("|") for it in lines[1:]}) == 1
 
 
-def test_refusals_of_examples() -> None:
+def refusals_of_examples() -> list[tuple[str, int, int, str]]:
+    """Returns for each refused example its name, the number, the offset, and the lines of `examples/explain`."""
     told = (REFUSED / "programs.told").read_text()
     found = re.findall(r"(?m)^refused/(.*): refused ([0-9]+) at ([0-9]+)\n((?: *-->| +\||[0-9]+ \|| = ).*(?:\n(?: |[0-9]+ \|).*)*)", told)
-    assert len(found) > 12
-    for name, number, offset, text in found:
-        said = places.refusal_text(f"refused/{name}", (REFUSED / name).read_bytes(), int(number), int(offset))
+    return [(name, int(number), int(offset), text) for name, number, offset, text in found]
+
+
+def test_refusals_of_examples() -> None:
+    assert len(refusals_of_examples()) > 12
+    for name, number, offset, text in refusals_of_examples():
+        told = [it.removeprefix(" = ").removeprefix(f"{number}: ") for it in text.split("\n") if it.startswith(" = ")]
+        said = places.refusal_text(f"refused/{name}", (REFUSED / name).read_bytes(), number, offset, told)
         assert said == text, name
+
+
+def test_causes_of_examples() -> None:
+    causes = {name: places.cause((REFUSED / name).read_bytes(), offset) for name, number, offset, _ in refusals_of_examples() if number == 211}
+    words = {
+        "braces": "no braces",
+        "comment": "begins with `//`",
+        "elif": "no `elif`",
+        "expression": "no part of an expression",
+        "fraction": "no fractions",
+        "lost_set": "has to go somewhere",
+        "minus_equals": "no such statement",
+        "missing_end": "the text ends here",
+        "one_bound": "two bounds",
+        "script_as_program": "this is a script",
+        "semicolon": "a `;` may be missing",
+        "text": "there are no texts",
+        "to_from": "`from` comes before `to`",
+    }
+    assert set(causes) == {f"{it}.program" for it in words}
+    for name, has in words.items():
+        assert has in (causes[f"{name}.program"] or ""), name
 
 
 @pytest.mark.parametrize(
     ("reply", "says"),
     [
         ("-: refused 211 at 0", "211: the token at K is unexpected"),
+        ("-: refused 211 at 0\n --> -:1:1\n = a cause", "a cause"),
         ("missing: refused 211 at 0", "missing: No such file"),
+        ("missing: refused 211 at 0\n --> missing:1:1\n = a cause", "a cause"),
+        ("program: refused 211 at 0", "211: the token at K is unexpected"),
+        ("program: refused 211 at 0\n --> program:1:1\n = a cause\n = a cure", "211: a cause"),
         ("refused 103", "103: the chunk size"),
         ("version 1", ""),
     ],
 )
 def test_explain(tmp_path: Path, reply: str, says: str) -> None:
-    done = subprocess.run([CLONE / "examples/explain"], input=f"{reply}\n", cwd=tmp_path, capture_output=True, text=True, check=False)
-    first, *more = done.stdout.splitlines()
-    assert (done.returncode, done.stderr, first) == (0, "", reply)
-    assert more[0].startswith(f" = {says}") if says else not more
+    (tmp_path / "program").write_text("\n")
+    lines = f"{reply}\nversion 2\n"
+    done = subprocess.run([CLONE / "examples/explain"], input=lines, cwd=tmp_path, capture_output=True, text=True, check=False)
+    first, *more, last = done.stdout.splitlines()
+    assert (done.returncode, done.stderr, first, last) == (0, "", reply.split("\n")[0], "version 2")
+    meant = [it for it in more if it.startswith(" = ")]
+    assert meant[0].startswith(f" = {says}") if says else not more
 
 
 def test_cause_is_for_211_alone() -> None:
